@@ -1,0 +1,12 @@
+ghost use Rattle.std.specs.Prelude.{◌≡◌, ◌<◌};
+ghost use Rattle.rb_base.specs.Bucket.{bucket_number};
+
+/// The bucket of a key of a table, of so many buckets.
+pub fn bucket_of(table: u16, key: u64, buckets: u32) -> u32
+    requires { 0 < buckets }
+    ensures bucket { result ≡ bucket_number table key buckets }
+    ensures within { result < buckets }
+{
+    let count = u64::from(buckets);
+    ((key % count + u64::from(table)) % count) as u32
+}
