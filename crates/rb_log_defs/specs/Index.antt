@@ -1,0 +1,62 @@
+-- mysql.ndb_binlog_index: where each epoch stands. After the replication schema chapter of the manual; the records of file 0
+-- are this project's own.
+use Rattle.std.specs.Prelude.{ℕ, Bool, true, false, nat_le, List, [], ◌∷◌, ◌++◌, length, count_by, filter, None}
+use Rattle.std.specs.List.{flat_map, last_or}
+use Rattle.std.specs.Option.{option_map_or}
+use Rattle.byteorder.specs.Endian.{little_bytes}
+use Rattle.rb_base.specs.Epoch.{gci_of}
+use Rattle.rb_base.specs.Site.{server_of}
+use Rattle.rb_base.specs.declared.site.SiteId.{SiteId}
+use Rattle.rb_base.specs.declared.change.Kind.{Kind}
+use Rattle.rb_base.specs.declared.change.Kind.TheVariants.{Insert, Update, Remove}
+use Rattle.rb_base.specs.declared.body.EpochBody.{EpochBody}
+use Rattle.rb_base.specs.declared.body.IndexRow.{IndexRow}
+
+abbrev pub is_insert : Kind → Bool
+is_insert Insert = true
+is_insert Update = false
+is_insert Remove = false
+
+abbrev pub is_update : Kind → Bool
+is_update Insert = false
+is_update Update = true
+is_update Remove = false
+
+abbrev pub is_remove : Kind → Bool
+is_remove Insert = false
+is_remove Update = false
+is_remove Remove = true
+
+-- the index row of an epoch that stands in a file from one position to another
+abbrev pub index_row : SiteId → (file position next : ℕ) → EpochBody → IndexRow
+index_row site file position next body = record {
+  epoch = body.epoch;
+  orig_epoch = body.epoch;
+  position = position;
+  next_position = next;
+  file = file;
+  next_file = file;
+  inserts = count_by (λ change. is_insert change.kind) body.changes;
+  updates = count_by (λ change. is_update change.kind) body.changes;
+  deletes = count_by (λ change. is_remove change.kind) body.changes;
+  schemaops = 0;
+  orig_server_id = server_of site;
+  gci = gci_of body.epoch;
+}
+
+-- the record of a row behind its gate, 64 bytes
+unfoldable pub index_record : IndexRow → List ℕ
+index_record row =
+    little_bytes 8 row.epoch.0 ++ (little_bytes 8 row.orig_epoch.0 ++ (little_bytes 8 row.position
+    ++ (little_bytes 8 row.next_position ++ (little_bytes 4 row.file ++ (little_bytes 4 row.next_file
+    ++ (little_bytes 4 row.inserts ++ (little_bytes 4 row.updates ++ (little_bytes 4 row.deletes
+    ++ (little_bytes 4 row.schemaops ++ (little_bytes 4 row.orig_server_id ++ little_bytes 4 row.gci))))))))))
+
+-- file 0: each record behind an open gate, and at the end a closed gate
+unfoldable pub index_file : List IndexRow → List ℕ
+index_file rows = flat_map (λ row. 1 ∷ index_record row) rows ++ 0 ∷ []
+
+-- where the log goes on after an epoch: the next place of the last row with an epoch at most that one, or the first file's start
+abbrev pub position_after : List IndexRow → (epoch : ℕ) → ℕ × ℕ
+position_after rows epoch =
+    option_map_or (λ row. (row.next_file, row.next_position)) (last_or None (filter (λ row. nat_le row.epoch.0 epoch) rows)) (1, 4)

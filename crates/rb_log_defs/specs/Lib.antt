@@ -1,0 +1,7 @@
+pub mod Event
+pub mod Table
+pub mod Rows
+pub mod Epoch
+pub mod Fits
+pub mod File
+pub mod Index

@@ -1,0 +1,110 @@
+-- WRITE_ROWS, UPDATE_ROWS and DELETE_ROWS events, version 2. After the row-event chapter of the binlog format; the extra
+-- data, which carries the transaction's number, is this project's own.
+use Rattle.std.specs.Prelude.{ℕ, ◌+◌, ◌-◌, ◌^◌, nat_le, if◌then◌else◌, List, [], ◌∷◌, ◌++◌, length, Option, Some, None}
+use Rattle.std.specs.List.{flat_map, zip}
+use Rattle.byteorder.specs.Endian.{little_bytes}
+use Rattle.rb_base.specs.Length.{length_bytes}
+use Rattle.rb_base.specs.declared.schema.Column.{Column}
+use Rattle.rb_base.specs.declared.schema.Column.TheVariants as columns
+use Rattle.rb_base.specs.declared.row.Value.{Value}
+use Rattle.rb_base.specs.declared.row.Value.TheVariants as values
+use Rattle.rb_base.specs.declared.row.Row.{Row}
+use Rattle.rb_base.specs.declared.change.Kind.{Kind}
+use Rattle.rb_base.specs.declared.change.Kind.TheVariants.{Insert, Update, Remove}
+use Rattle.rb_base.specs.declared.change.Change.{Change}
+use Rattle.rb_base.specs.declared.epoch.Epoch.{Epoch}
+use Rattle.rb_base.specs.declared.body.EpochBody.{EpochBody}
+use Rattle.rb_log_defs.specs.Event.{Placed, zeros, event_bytes}
+use Rattle.rb_log_defs.specs.Table.{bitmap_size, status_columns}
+
+-- a text with its length before it, in 1 byte where the maximum is at most 255 and else in 2
+unfoldable pub text_bytes : (most : ℕ) → List ℕ → List ℕ
+text_bytes most text = little_bytes (if nat_le most 255 then 1 else 2) (length text) ++ text
+
+-- a value in a column of its kind
+abbrev pub value_bytes : Column → Value → List ℕ
+value_bytes columns.Num (values.Num n) = little_bytes 8 n
+value_bytes columns.Long (values.Num n) = little_bytes 4 n
+value_bytes (columns.Text most) (values.Text text) = text_bytes most text
+value_bytes columns.Num (values.Text text) = []
+value_bytes columns.Long (values.Text text) = []
+value_bytes (columns.Text most) (values.Num n) = []
+
+-- the values of a row, column by column
+abbrev pub values_bytes : List Column → List Value → List ℕ
+values_bytes columns values = flat_map (λ (pair : Column × Value). value_bytes pair.0 pair.1) (zip columns values)
+
+-- a row image: which values are NULL, none, and the values
+unfoldable pub row_image : List Column → Row → List ℕ
+row_image columns row = zeros (bitmap_size (length columns)) ++ values_bytes columns row.values
+
+-- the image of a row that may be absent
+abbrev pub image_of : List Column → Option Row → List ℕ
+image_of columns None = []
+image_of columns (Some row) = row_image columns row
+
+-- the row of a change: the after image of an insert, the before image of a remove, both of an update
+abbrev pub images_of : Kind → List Column → (before after : Option Row) → List ℕ
+images_of Insert columns before after = image_of columns after
+images_of Update columns before after = image_of columns before ++ image_of columns after
+images_of Remove columns before after = image_of columns before
+
+-- a bitmap in which every column is present
+abbrev pub present_bitmap : (columns : ℕ) → List ℕ
+present_bitmap columns = little_bytes (bitmap_size columns) (2 ^ columns - 1)
+
+-- the present bitmaps of a kind: an update has one for each image
+abbrev pub present_bitmaps : Kind → (columns : ℕ) → List ℕ
+present_bitmaps Insert columns = present_bitmap columns
+present_bitmaps Update columns = present_bitmap columns ++ present_bitmap columns
+present_bitmaps Remove columns = present_bitmap columns
+
+-- table id, flags, extra data with its length, number of columns, the columns present, the rows
+unfoldable pub rows_payload : (table flags : ℕ) (extra : List ℕ) (columns : ℕ) (present rows : List ℕ) → List ℕ
+rows_payload table flags extra columns present rows =
+    little_bytes 6 table ++ (little_bytes 2 flags ++ (little_bytes 2 (2 + length extra) ++ (extra
+    ++ (length_bytes columns ++ (present ++ rows)))))
+
+-- the event type of a kind
+abbrev pub rows_type : Kind → ℕ
+rows_type Insert = 30
+rows_type Update = 31
+rows_type Remove = 32
+
+-- STMT_END_F, which the last rows event of an epoch carries, where `later` are the changes after it
+abbrev pub end_flag : List Change → ℕ
+end_flag [] = 1
+end_flag (change ∷ later) = 0
+
+-- the extra data of a data rows event: `52` and the transaction's number
+abbrev pub transid_extra : ℕ → List ℕ
+transid_extra transid = 82 ∷ little_bytes 8 transid
+
+-- the rows event of one change, with the flag of the changes after it
+unfoldable pub change_payload : List Column → Change → (flags : ℕ) → List ℕ
+change_payload columns change flags =
+    rows_payload change.table flags (transid_extra change.transid) (length columns)
+    (present_bitmaps change.kind (length columns)) (images_of change.kind columns change.before change.after)
+
+abbrev pub change_event : (server : ℕ) → List Column → Change → (flags : ℕ) → Placed
+change_event server columns change flags = event_bytes (rows_type change.kind) server (change_payload columns change flags)
+
+-- a row of mysql.ndb_apply_status: a server and the last epoch of its that is in the rows
+abbrev pub status_row : (server epoch : ℕ) → Row
+status_row server epoch =
+    record { values = values.Num server ∷ values.Num epoch ∷ values.Text [] ∷ values.Num 0 ∷ values.Num 0 ∷ [] }
+
+-- the primary's row in the status of an epoch that reflects one of its epochs
+abbrev pub reflected_row : Option Epoch → List ℕ
+reflected_row None = []
+reflected_row (Some epoch) = row_image status_columns (status_row 1 epoch.0)
+
+-- the apply-status rows of an epoch: the site's own, and the reflected one
+abbrev pub status_rows : EpochBody → List ℕ
+status_rows body = row_image status_columns (status_row body.server body.epoch.0) ++ reflected_row body.reflected
+
+unfoldable pub status_payload : EpochBody → List ℕ
+status_payload body = rows_payload 0 (end_flag body.changes) [] (length status_columns) (present_bitmap (length status_columns)) (status_rows body)
+
+abbrev pub status_event : EpochBody → Placed
+status_event body = event_bytes 30 body.server (status_payload body)
