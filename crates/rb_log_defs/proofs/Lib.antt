@@ -1,1 +1,4 @@
 pub mod Example
+pub mod Files
+pub mod Joined
+pub mod Sizes

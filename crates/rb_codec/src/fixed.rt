@@ -1,0 +1,117 @@
+ghost use Rattle.std.specs.Prelude.{◌≡◌, ◌+◌, ◌^◌, ◌<◌, ◌++◌, length, IfOk, OnOk, OnErr};
+ghost use Rattle.rb_log_defs.specs.Event.{format_event, format_payload, query_event, query_payload, xid_event, xid_payload};
+
+use crate::event::write_event;
+use byteorder::{ByteOrder, LittleEndian};
+use rb_base::NoMemory;
+use std::alloc::Global;
+
+/// The type codes of the events in this file.
+const QUERY_EVENT: u8 = 2;
+
+const FORMAT_DESCRIPTION_EVENT: u8 = 15;
+
+const XID_EVENT: u8 = 16;
+
+/// The server version that each log names, at most 50 bytes.
+const SERVER_VERSION: [u8; 6] = *b"8.0-rb";
+
+/// The length of the fixed part of each event's payload, for the event types from 1 to 35.
+const POST_HEADER_LENGTHS: [u8; 35] = [
+    0, 13, 0, 8, 0, 0, 0, 0, 0, 0, 0, 0, 0, 0, 92, 0, 0, 0, 8, 0, 0, 0, 0, 0, 0, 0, 0, 0, 0, 10,
+    10, 10, 0, 0, 0,
+];
+
+/// Appends the format description event, with which each file of the log begins: 111 bytes, of the server
+/// `server`, starting at `start`. Without memory the output stays as it was.
+#[tactic(auto, using(rb_log_defs::proofs::Sizes::format_length))]
+pub fn write_format(
+    alloc: Global,
+    out: &mut Vec<u8>,
+    server: u32,
+    start: u32,
+) -> Result<(), NoMemory>
+    requires { start + 111 < 2 ^ 32 }
+    ensures ok { OnOk result (out.new.items ≡ out.old.items ++ format_event server start) }
+    ensures size { OnOk result (length out.new.items ≡ length out.old.items + 111) }
+    ensures err { OnErr result (out.new.items ≡ out.old.items) }
+{
+    write_event(
+        alloc,
+        out,
+        FORMAT_DESCRIPTION_EVENT,
+        server,
+        start,
+        &format_array(),
+    )?;
+    Ok(())
+}
+
+#[tactic(auto, unfolding(rb_log_defs::specs::Event::format_payload))]
+fn format_array() -> [u8; 92]
+    ensures { result ≡ format_payload }
+{
+    let mut payload = [0u8; 92];
+    LittleEndian::write_u16(&mut payload, 4);
+    payload[2..8].copy_from_slice(&SERVER_VERSION);
+    payload[56] = 19;
+    payload[57..].copy_from_slice(&POST_HEADER_LENGTHS);
+    payload
+}
+
+/// Appends a query event of the statement `text`, as BEGIN: 33 bytes and the text, of the server `server`,
+/// starting at `start`. It names no schema and no thread. Without memory the output stays as it was.
+#[tactic(auto, using(rb_log_defs::proofs::Sizes::query_payload_length))]
+pub fn write_query(
+    alloc: Global,
+    out: &mut Vec<u8>,
+    server: u32,
+    start: u32,
+    text: &[u8],
+) -> Result<(), NoMemory>
+    requires { start + (33 + length text.now) < 2 ^ 32 }
+    ensures ok { OnOk result (out.new.items ≡ out.old.items ++ query_event server text.now start) }
+    ensures size { OnOk result (length out.new.items ≡ length out.old.items + (33 + length text.now)) }
+    ensures err { OnErr result (out.new.items ≡ out.old.items) }
+{
+    let payload = query_payload(alloc, text)?;
+    write_event(alloc, out, QUERY_EVENT, server, start, &payload)?;
+    Ok(())
+}
+
+#[tactic(auto, unfolding(rb_log_defs::specs::Event::query_payload))]
+fn query_payload(alloc: Global, text: &[u8]) -> Result<Vec<u8>, NoMemory>
+    ensures { IfOk result (λ payload. payload.items ≡ query_payload text.now) }
+{
+    let mut payload = Vec::from_slice(alloc, &[0u8; 14])?;
+    payload.extend_from_slice(text)?;
+    Ok(payload)
+}
+
+/// Appends the event that ends a transaction with the number `xid`: 27 bytes, of the server `server`, starting at
+/// `start`. Without memory the output stays as it was.
+#[tactic(auto, using(rb_log_defs::proofs::Sizes::xid_payload_length))]
+pub fn write_xid(
+    alloc: Global,
+    out: &mut Vec<u8>,
+    server: u32,
+    start: u32,
+    xid: u64,
+) -> Result<(), NoMemory>
+    requires { start + 27 < 2 ^ 32 }
+    ensures ok { OnOk result (out.new.items ≡ out.old.items ++ xid_event server xid start) }
+    ensures size { OnOk result (length out.new.items ≡ length out.old.items + 27) }
+    ensures err { OnErr result (out.new.items ≡ out.old.items) }
+{
+    write_event(alloc, out, XID_EVENT, server, start, &xid_array(xid))?;
+    Ok(())
+}
+
+#[tactic(auto, unfolding(rb_log_defs::specs::Event::xid_payload))]
+fn xid_array(xid: u64) -> [u8; 8]
+    ensures { result ≡ xid_payload xid }
+{
+    let mut payload = [0u8; 8];
+    LittleEndian::write_u64(&mut payload, xid);
+    payload
+}

@@ -1,0 +1,167 @@
+ghost use Rattle.std.specs.Prelude.{◌≡◌, ◌≢◌, ◌<◌, ◌≤◌, ◌+◌, ◌-◌, ◌^◌, ℕ, [], length, take, slice_range, slice_index_or, IsOk, OnOk, OnErr, IsErrOf};
+ghost use Rattle.rb_base.specs.Faults.{HasCause, HasOutCause};
+ghost use Rattle.rb_disk.specs.Disk.{Holds, Torn, CutShort};
+
+use crate::device::LogDisk;
+use rb_base::{Failed, NoMemory, OutFault};
+use std::alloc::Global;
+use std::marker::Model;
+
+#[derive(Debug, Drop)]
+struct File {
+    held: Vec<u8>,
+}
+
+impl Model for File {
+    ghost use Rattle.std.specs.Prelude.{ℕ, List};
+    ghost use Rattle.std.specs.Coded.{coded_list, coded_ℕ};
+
+    ghost Value = { List ℕ };
+
+    ghost coded = { coded_list coded_ℕ };
+
+    ghost view = { λ file. file.held.items };
+}
+
+/// A log device in memory that never fails. A write takes its memory before it changes anything, and one at the
+/// end of a file costs the bytes written, not the file.
+#[derive(Debug, Drop)]
+pub struct MemoryDisk {
+    alloc: Global,
+    files: Vec<File>,
+}
+
+impl Model for MemoryDisk {
+    ghost use Rattle.std.specs.Prelude.{ℕ, List, ◌<◌, ◌^◌, length};
+
+    ghost Value = { List (List ℕ) };
+
+    ghost view = { λ disk. disk.files.items };
+
+    ghost invariant = { λ disk. length disk.files.items < 2 ^ 32 };
+}
+
+impl MemoryDisk {
+    /// A device with no bytes.
+    pub fn new(alloc: Global) -> MemoryDisk
+        ensures { result ≡ [] }
+    {
+        MemoryDisk {
+            alloc,
+            files: Vec::new(alloc),
+        }
+    }
+
+    /// The bytes of a file.
+    pub fn file(&self, number: u32) -> &[u8]
+        ensures { result.now ≡ slice_index_or self.now number [] }
+    {
+        match self.files.get(number as usize) {
+            Some(file) => &file.held,
+            None => &[],
+        }
+    }
+}
+
+impl LogDisk for MemoryDisk {
+    ghost seen = { λ disk file. slice_index_or disk file [] };
+
+    ghost fault_count = { λ _. 0 };
+
+    fn files(&self) -> u32
+        ensures empty { (file : ℕ) → result ≤ file → slice_index_or self.now file [] ≡ [] }
+        ensures count { result ≡ length self.now }
+    {
+        self.files.len() as u32
+    }
+
+    fn len(&self, file: u32) -> u64 {
+        self.file(file).len() as u64
+    }
+
+    fn read(&mut self, file: u32, at: u64, into: &mut [u8]) -> Result<(), Failed>
+        requires { at + length into.old ≤ length (slice_index_or self.old file []) }
+        ensures bytes { OnOk result (into.new ≡ slice_range (slice_index_or self.old file []) at (at + length into.old)) }
+        ensures same { self.new ≡ self.old }
+        ensures cause { HasCause 0 0 result }
+        ensures never_fails { IsOk result }
+    {
+        let rest = &self.file(file)[at as usize..];
+        into.copy_from_slice(&rest[..into.len()]);
+        Ok(())
+    }
+
+    fn write_at(&mut self, file: u32, at: u64, bytes: &[u8]) -> Result<(), OutFault>
+        requires place { at ≤ length (slice_index_or self.old file []) }
+        requires number { file < 2 ^ 32 - 1 }
+        requires fits { at + length bytes.now < 2 ^ 63 }
+        ensures written { OnOk result (Holds (slice_index_or self.old file []) at bytes.now (slice_index_or self.new file [])) }
+        ensures torn { IsErrOf result OutFault.Failed → Torn at (length bytes.now) (slice_index_or self.old file []) (slice_index_or self.new file []) }
+        ensures memory { IsErrOf result OutFault.NoMemory → slice_index_or self.new file [] ≡ slice_index_or self.old file [] }
+        ensures others { (other : ℕ) → other ≢ file → slice_index_or self.new other [] ≡ slice_index_or self.old other [] }
+        ensures cause { HasOutCause 0 0 result }
+        ensures never_fails { IsErrOf result OutFault.Failed → ⊥ }
+    {
+        let number = file as usize;
+        make_files(self.alloc, &mut self.files, number + 1)?;
+        let file = &mut self.files[number];
+        overwrite(&mut file.held, at as usize, bytes)?;
+        Ok(())
+    }
+
+    fn cut(&mut self, file: u32, len: u64) -> Result<(), OutFault>
+        requires { len ≤ length (slice_index_or self.old file []) }
+        ensures cut { OnOk result (slice_index_or self.new file [] ≡ take len (slice_index_or self.old file [])) }
+        ensures short { IsErrOf result OutFault.Failed → CutShort len (slice_index_or self.old file []) (slice_index_or self.new file []) }
+        ensures memory { IsErrOf result OutFault.NoMemory → slice_index_or self.new file [] ≡ slice_index_or self.old file [] }
+        ensures others { (other : ℕ) → other ≢ file → slice_index_or self.new other [] ≡ slice_index_or self.old other [] }
+        ensures cause { HasOutCause 0 0 result }
+        ensures never_fails { IsOk result }
+    {
+        let number = file as usize;
+        if number < self.files.len() {
+            let file = &mut self.files[number];
+            file.held.truncate(len as usize);
+        }
+        Ok(())
+    }
+
+    fn sync(&mut self, _file: u32) -> Result<(), OutFault>
+        ensures same { self.new ≡ self.old }
+        ensures cause { HasOutCause 0 0 result }
+        ensures never_fails { IsOk result }
+    {
+        Ok(())
+    }
+
+    fn faults(&self) -> u64 {
+        0
+    }
+}
+
+// At least so many files, the new ones empty.
+fn make_files(alloc: Global, files: &mut Vec<File>, count: usize) -> Result<(), NoMemory>
+    requires { length files.old.items < 2 ^ 32 × (count < 2 ^ 32) }
+    ensures ok { OnOk result (count ≤ length files.new.items) }
+    ensures few { length files.new.items < 2 ^ 32 }
+    ensures same { (other : ℕ) → slice_index_or files.new.items other [] ≡ slice_index_or files.old.items other [] }
+{
+    while files.len() < count {
+        files.push(File {
+            held: Vec::new(alloc),
+        })?;
+    }
+    Ok(())
+}
+
+// Puts bytes over what is there, and past the end.
+fn overwrite(held: &mut Vec<u8>, at: usize, bytes: &[u8]) -> Result<(), NoMemory>
+    requires { at ≤ length held.old.items }
+    ensures ok { OnOk result (Holds held.old.items at bytes.now held.new.items) }
+    ensures err { OnErr result (held.new.items ≡ held.old.items) }
+{
+    let inside = bytes.len().min(held.len() - at);
+    held.extend_from_slice(&bytes[inside..])?;
+    held[at..at + inside].copy_from_slice(&bytes[..inside]);
+    Ok(())
+}

@@ -1,0 +1,148 @@
+-- How the bodies of a journal grow with its entries.
+use Rattle.std.proofs.Common.{◌≡◌, ◌≢◌, ℕ, zero, suc, ◌+◌, ◌%◌, ◌<◌, Bool, true, false, cond, eqb, List, [], ◌∷◌, ◌++◌, filter, map, take, refl, sym, ap, subst, ◌∙◌, arith, append_assoc}
+use Rattle.std.specs.Prelude.{◌==◌, ◌&&◌, not, Option, Some, None, if◌then◌else◌}
+use Rattle.std.specs.List.{AllByRecursion, flat_map}
+use Rattle.std.proofs.lemmas.Bool.{ne_eqb}
+use Rattle.std.proofs.lemmas.List.{append-nil, map-append}
+use Rattle.std.proofs.lemmas.List.Elements.{filter-append}
+use Rattle.std.proofs.Math.Nat.{mod-one}
+use Rattle.rb_base.specs.Bucket.{bucket_number}
+use Rattle.rb_base.specs.Site.{server_of}
+use Rattle.rb_base.specs.declared.epoch.Epoch.{Epoch}
+use Rattle.rb_base.specs.declared.site.SiteId.{SiteId}
+use Rattle.rb_base.specs.declared.site.SiteId.TheVariants.{A, B}
+use Rattle.rb_base.specs.declared.change.Change.{Change}
+use Rattle.rb_base.specs.declared.body.EpochBody.{EpochBody}
+use Rattle.rb_journal_defs.specs.Journal.{Entry, Client, Applied, Closed, Journal, epoch_of, changes_of, closed_epochs}
+use Rattle.rb_journal_defs.specs.Body.{Shape, changes_in, in_bucket, part_of, numbers_below, is_logged, body_changes, last_source, reflected_in, is_named_in, body_with, body_of, has_something_to_log, completed_epochs, completed_bodies}
+
+-- a journal's entry adds nothing to other epochs
+changes_in_other : (site : SiteId) (epoch : ℕ) (entry : Entry) (older : Journal) → (epoch_of entry ≡ epoch → ⊥) → changes_in site epoch (entry ∷ older) ≡ changes_in site epoch older
+changes_in_other site epoch entry older differs =
+    rw (ne_eqb (epoch_of entry) epoch differs) (append-nil (changes_in site epoch older))
+
+last_source_other : (epoch : ℕ) (entry : Entry) (older : Journal) → (epoch_of entry ≡ epoch → ⊥) → last_source epoch (entry ∷ older) ≡ last_source epoch older
+last_source_other epoch (Client own transid changes) older differs = refl
+last_source_other epoch (Applied own source transid accepted refreshes) older differs = rw (ne_eqb own epoch differs) refl
+last_source_other epoch (Closed own) older differs = refl
+
+reflected_other : (site : SiteId) (epoch : ℕ) (entry : Entry) (older : Journal) → (epoch_of entry ≡ epoch → ⊥) → reflected_in site epoch (entry ∷ older) ≡ reflected_in site epoch older
+reflected_other A epoch entry older differs = refl
+reflected_other B epoch entry older differs = last_source_other epoch entry older differs
+
+-- the body that these changes and this reflected epoch make
+body_made : Shape → ℕ → Option Epoch → List Change → EpochBody
+body_made shape epoch reflected changes =
+    body_with shape epoch reflected (filter (is_logged shape.site) (flat_map (λ bucket. in_bucket shape.buckets bucket changes) (numbers_below shape.buckets)))
+
+body_is_made : (shape : Shape) (epoch : ℕ) (journal : Journal) → body_of shape epoch journal ≡ body_made shape epoch (reflected_in shape.site epoch journal) (changes_in shape.site epoch journal)
+unfolding body_of body_made
+body_is_made shape epoch journal = refl
+
+body_same : (shape : Shape) (epoch : ℕ) (new old : Journal) → reflected_in shape.site epoch new ≡ reflected_in shape.site epoch old → changes_in shape.site epoch new ≡ changes_in shape.site epoch old → body_of shape epoch new ≡ body_of shape epoch old
+body_same shape epoch new old reflected changes =
+    body_is_made shape epoch new
+    ∙ ap (λ (r : Option Epoch). body_made shape epoch r (changes_in shape.site epoch new)) reflected
+    ∙ ap (λ (cs : List Change). body_made shape epoch (reflected_in shape.site epoch old) cs) changes
+    ∙ sym (body_is_made shape epoch old)
+
+-- the body of another epoch stays
+pub body_of_other : (shape : Shape) (epoch : ℕ) (entry : Entry) (older : Journal) → (epoch_of entry ≡ epoch → ⊥) → body_of shape epoch (entry ∷ older) ≡ body_of shape epoch older
+body_of_other shape epoch entry older differs =
+    body_same shape epoch (entry ∷ older) older (reflected_other shape.site epoch entry older differs) (changes_in_other shape.site epoch entry older differs)
+
+pub changes_in_closed : (site : SiteId) (epoch closed : ℕ) (older : Journal) → changes_in site epoch (Closed closed ∷ older) ≡ changes_in site epoch older
+changes_in_closed site epoch closed older = elim (closed == epoch) as (λ b. changes_in site epoch older ++ cond b [] [] ≡ changes_in site epoch older)
+    [ true ↦ append-nil (changes_in site epoch older) | false ↦ append-nil (changes_in site epoch older) ]
+
+reflected_closed : (site : SiteId) (epoch closed : ℕ) (older : Journal) → reflected_in site epoch (Closed closed ∷ older) ≡ reflected_in site epoch older
+reflected_closed A epoch closed older = refl
+reflected_closed B epoch closed older = refl
+
+-- a close changes no body
+pub body_of_closed : (shape : Shape) (epoch closed : ℕ) (older : Journal) → body_of shape epoch (Closed closed ∷ older) ≡ body_of shape epoch older
+body_of_closed shape epoch closed older =
+    body_same shape epoch (Closed closed ∷ older) older (reflected_closed shape.site epoch closed older) (changes_in_closed shape.site epoch closed older)
+
+-- the bodies of these epochs that have something to log
+logged_of : Shape → Journal → List ℕ → List EpochBody
+logged_of shape journal epochs = map (λ epoch. body_of shape epoch journal) (filter (λ epoch. has_something_to_log (body_of shape epoch journal)) epochs)
+
+-- one body, where it has something to log
+abbrev pub if_logged : EpochBody → List EpochBody
+if_logged body = if has_something_to_log body then body ∷ [] else []
+
+logged_of_cons : (shape : Shape) (journal : Journal) (epoch : ℕ) (epochs : List ℕ) → logged_of shape journal (epoch ∷ epochs) ≡ if_logged (body_of shape epoch journal) ++ logged_of shape journal epochs
+unfolding logged_of
+logged_of_cons shape journal epoch epochs = go (has_something_to_log (body_of shape epoch journal))
+  where
+    go : (b : Bool) → map (λ epoch. body_of shape epoch journal) (cond b (epoch ∷ filter (λ epoch. has_something_to_log (body_of shape epoch journal)) epochs) (filter (λ epoch. has_something_to_log (body_of shape epoch journal)) epochs)) ≡ cond b (body_of shape epoch journal ∷ []) [] ++ map (λ epoch. body_of shape epoch journal) (filter (λ epoch. has_something_to_log (body_of shape epoch journal)) epochs)
+    go true = refl
+    go false = refl
+
+logged_same : (shape : Shape) (new old : Journal) (epochs : List ℕ) → AllByRecursion (λ epoch. body_of shape epoch new ≡ body_of shape epoch old) epochs → logged_of shape new epochs ≡ logged_of shape old epochs
+unfolding logged_of
+logged_same shape new old [] same = refl
+logged_same shape new old (epoch ∷ epochs) same =
+    logged_of_cons shape new epoch epochs
+    ∙ ap (λ (b : EpochBody). if_logged b ++ logged_of shape new epochs) same.0
+    ∙ ap (λ (bs : List EpochBody). if_logged (body_of shape epoch old) ++ bs) (logged_same shape new old epochs same.1)
+    ∙ sym (logged_of_cons shape old epoch epochs)
+
+logged_append : (shape : Shape) (journal : Journal) (xs ys : List ℕ) → logged_of shape journal (xs ++ ys) ≡ logged_of shape journal xs ++ logged_of shape journal ys
+unfolding logged_of
+logged_append shape journal xs ys =
+    ap (map (λ epoch. body_of shape epoch journal)) (filter-append (λ epoch. has_something_to_log (body_of shape epoch journal)) xs ys)
+    ∙ map-append (λ epoch. body_of shape epoch journal) (filter (λ epoch. has_something_to_log (body_of shape epoch journal)) xs) (filter (λ epoch. has_something_to_log (body_of shape epoch journal)) ys)
+
+completed_is : (shape : Shape) (journal : Journal) → completed_bodies shape journal ≡ logged_of shape journal (closed_epochs journal)
+unfolding completed_bodies completed_epochs logged_of
+completed_is shape journal = refl
+
+others_below : (shape : Shape) (entry : Entry) (older : Journal) (epochs : List ℕ) → AllByRecursion (λ epoch. epoch < epoch_of entry) epochs → AllByRecursion (λ epoch. body_of shape epoch (entry ∷ older) ≡ body_of shape epoch older) epochs
+others_below shape entry older [] below = tt
+others_below shape entry older (epoch ∷ epochs) below =
+    (body_of_other shape epoch entry older (λ (same : epoch_of entry ≡ epoch). let h : epoch < epoch_of entry = below.0 in absurd (omega arith)), others_below shape entry older epochs below.1)
+
+closed_same : (shape : Shape) (closed : ℕ) (older : Journal) (epochs : List ℕ) → AllByRecursion (λ epoch. body_of shape epoch (Closed closed ∷ older) ≡ body_of shape epoch older) epochs
+closed_same shape closed older [] = tt
+closed_same shape closed older (epoch ∷ epochs) = (body_of_closed shape epoch closed older, closed_same shape closed older epochs)
+
+-- a transaction in an open epoch leaves the completed bodies
+pub completed_client : (shape : Shape) (opened transid : ℕ) (changes : List Change) (older : Journal) → AllByRecursion (λ epoch. epoch < opened) (closed_epochs older) → completed_bodies shape (Client opened transid changes ∷ older) ≡ completed_bodies shape older
+completed_client shape opened transid changes older below =
+    completed_is shape (Client opened transid changes ∷ older)
+    ∙ logged_same shape (Client opened transid changes ∷ older) older (closed_epochs older) (others_below shape (Client opened transid changes) older (closed_epochs older) below)
+    ∙ sym (completed_is shape older)
+
+-- a close adds the body of its epoch, where that has something to log
+pub completed_closed : (shape : Shape) (closed : ℕ) (older : Journal) → completed_bodies shape (Closed closed ∷ older) ≡ completed_bodies shape older ++ if_logged (body_of shape closed older)
+unfolding logged_of
+completed_closed shape closed older =
+    completed_is shape (Closed closed ∷ older)
+    ∙ logged_same shape (Closed closed ∷ older) older (closed_epochs older ++ closed ∷ []) (closed_same shape closed older (closed_epochs older ++ closed ∷ []))
+    ∙ logged_append shape older (closed_epochs older) (closed ∷ [])
+    ∙ ap (λ (bs : List EpochBody). logged_of shape older (closed_epochs older) ++ bs) (logged_of_cons shape older closed [] ∙ append-nil (if_logged (body_of shape closed older)))
+    ∙ ap (λ (bs : List EpochBody). bs ++ if_logged (body_of shape closed older)) (sym (completed_is shape older))
+
+-- a filter that all pass
+filter_all : {X : Type 0} (test : X → Bool) (xs : List X) → AllByRecursion (λ x. test x ≡ true) xs → filter test xs ≡ xs
+filter_all test [] pass = refl
+filter_all test (x ∷ xs) pass = rw pass.0 (ap (λ ys. x ∷ ys) (filter_all test xs pass.1))
+
+-- the body's changes where there is one bucket and every change is logged
+abbrev pub AllLogged : SiteId → List Change → Type 0
+AllLogged site changes = AllByRecursion (λ change. is_logged site change ≡ true) changes
+
+one_bucket : (changes : List Change) → AllByRecursion (λ change. (bucket_number change.table change.key 1 == 0) ≡ true) changes
+one_bucket [] = tt
+one_bucket (change ∷ changes) = (rw (mod-one (change.key % 1 + change.table)) refl, one_bucket changes)
+
+pub body_of_one_bucket : (shape : Shape) (epoch : ℕ) (journal : Journal) → shape.buckets ≡ 1 → AllLogged shape.site (changes_in shape.site epoch journal) → body_of shape epoch journal ≡ body_with shape epoch (reflected_in shape.site epoch journal) (changes_in shape.site epoch journal)
+unfolding body_made
+body_of_one_bucket shape epoch journal one logged =
+    body_is_made shape epoch journal
+    ∙ ap (λ (cs : List Change). body_with shape epoch (reflected_in shape.site epoch journal) cs)
+        (ap (λ (n : ℕ). filter (is_logged shape.site) (flat_map (λ bucket. in_bucket n bucket (changes_in shape.site epoch journal)) (numbers_below n))) one
+        ∙ ap (filter (is_logged shape.site)) (append-nil (in_bucket 1 0 (changes_in shape.site epoch journal)) ∙ filter_all (λ change. bucket_number change.table change.key 1 == 0) (changes_in shape.site epoch journal) (one_bucket (changes_in shape.site epoch journal)))
+        ∙ filter_all (is_logged shape.site) (changes_in shape.site epoch journal) logged)

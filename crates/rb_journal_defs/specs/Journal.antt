@@ -1,0 +1,74 @@
+-- The journal of a site, its rows and its closed epochs. After the manual's chapter on NDB Cluster Replication: an epoch holds
+-- whole transactions, and the applier writes its progress with the rows.
+use Rattle.std.specs.Prelude.{ℕ, ◌==◌, ◌&&◌, nat_lt, if◌then◌else◌, List, [], ◌∷◌, ◌++◌, filter, Bool, Option, Some, None, unwrap_or}
+use Rattle.std.specs.List.{last_or}
+use Rattle.rb_base.specs.Site.{server_of, peer_of}
+use Rattle.rb_base.specs.declared.site.SiteId.{SiteId}
+use Rattle.rb_base.specs.declared.row.Row.{Row}
+use Rattle.rb_base.specs.declared.row.Value.TheVariants as values
+use Rattle.rb_base.specs.declared.change.Kind.TheVariants.{Update}
+use Rattle.rb_base.specs.declared.change.Change.{Change}
+
+-- what a site does: it accepts a client's transaction in its open epoch, applies an epoch of its peer in its own open epoch,
+-- or closes its epoch
+pub data Entry : Type 0 where
+  Client : (epoch transid : ℕ) → (changes : List Change) → Entry
+  Applied : (epoch source transid : ℕ) → (accepted refreshes : List Change) → Entry
+  Closed : (epoch : ℕ) → Entry
+
+-- the newest entry is the head
+abbrev pub Journal : Type 0
+Journal = List Entry
+
+-- the site's epoch in which an entry stands
+abbrev pub epoch_of : Entry → ℕ
+epoch_of (Client epoch transid changes) = epoch
+epoch_of (Applied epoch source transid accepted refreshes) = epoch
+epoch_of (Closed epoch) = epoch
+
+-- the applier's progress: the peer's row of the apply-status table gets the epoch that was applied
+abbrev pub status_change : SiteId → (source transid : ℕ) → Change
+status_change site source transid =
+    let peer = server_of (peer_of site) in record {
+      table = 0;
+      key = peer;
+      kind = Update;
+      before = None;
+      after = Some (record { values = values.Num peer ∷ values.Num source ∷ [] });
+      author = peer;
+      transid = transid
+    }
+
+-- the changes of an entry, in order
+abbrev pub changes_of : SiteId → Entry → List Change
+changes_of site (Client epoch transid changes) = changes
+changes_of site (Applied epoch source transid accepted refreshes) = accepted ++ (refreshes ++ status_change site source transid ∷ [])
+changes_of site (Closed epoch) = []
+
+-- the changes of one key of a table
+abbrev pub names_key : (table key : ℕ) → Change → Bool
+names_key table key change = (change.table == table) && (change.key == key)
+
+abbrev pub of_key : (table key : ℕ) → List Change → List Change
+of_key table key changes = filter (names_key table key) changes
+
+-- the row that changes of one key, oldest first, leave
+abbrev pub row_left : List Change → Option Row → Option Row
+row_left [] row = row
+row_left (change ∷ later) row = row_left later change.after
+
+-- the row of a key: what the last change of it left, or none
+abbrev pub row_at : SiteId → (table key : ℕ) → Journal → Option Row
+row_at site table key [] = None
+row_at site table key (entry ∷ older) = row_left (of_key table key (changes_of site entry)) (row_at site table key older)
+
+-- the closed epochs, in order
+abbrev pub closed_epochs : Journal → List ℕ
+closed_epochs [] = []
+closed_epochs (Client epoch transid changes ∷ older) = closed_epochs older
+closed_epochs (Applied epoch source transid accepted refreshes ∷ older) = closed_epochs older
+closed_epochs (Closed epoch ∷ older) = closed_epochs older ++ epoch ∷ []
+
+-- the last closed epoch below this one, or 0
+abbrev pub previous_closed : (epoch : ℕ) → Journal → ℕ
+previous_closed epoch journal = unwrap_or (last_or None (filter (λ closed. nat_lt closed epoch) (closed_epochs journal))) 0

@@ -1,0 +1,4 @@
+pub mod LineLaws
+pub mod SplitLaws
+pub mod StepLaws
+pub mod WordLaws

@@ -1,0 +1,5 @@
+pub mod Device
+pub mod Keys
+pub mod Sizes
+pub mod Steps
+pub mod Writing

@@ -1,0 +1,4 @@
+pub mod Fault
+pub mod Holding
+pub mod Site
+pub mod Writer
