@@ -2,9 +2,11 @@
 use Rattle.std.specs.Prelude.{ℕ, ◌+◌, ◌*◌, ◌/◌, ◌%◌, ◌^◌}
 use Rattle.rb_base.specs.declared.epoch.Epoch.{Epoch}
 
+-- the global checkpoint index, the high half
 abbrev pub gci_of : Epoch → ℕ
 gci_of e = e.0 / 2 ^ 32
 
+-- the micro GCI, the low half
 abbrev pub micro_of : Epoch → ℕ
 micro_of e = e.0 % 2 ^ 32
 

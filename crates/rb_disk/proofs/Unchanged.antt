@@ -1,11 +1,10 @@
 -- A file that a failed call left as it was.
-use Rattle.std.proofs.Common.{ℕ, ◌≤◌, List, length, arith, sym}
-use Rattle.std.proofs.lemmas.List.{take_all}
+use Rattle.std.proofs.Common.{ℕ, ◌≤◌, List, length, arith, refl}
 use Rattle.rb_disk.specs.Disk.{CutShort}
 
 pub not_cut : (len : ℕ) (xs : List ℕ) → len ≤ length xs → CutShort len xs xs
 not_cut len xs within = record {
   no_shorter = within;
   no_longer = omega arith;
-  front = sym (take_all (length xs) xs (omega arith));
+  front = refl;
 }

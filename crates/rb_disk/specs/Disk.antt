@@ -12,8 +12,8 @@ pub record Torn (at n : ℕ) (old new : List ℕ) : Type 0 where
   pub no_shorter : length old ≤ length new
   pub no_longer : length new ≤ max (length old) (at + n)
 
--- after a cut to this length that failed: some length from it to the old one, and the front as it was
+-- after a cut to this length that failed: some length from it to the old one, the bytes before it as they were, any bytes behind
 pub record CutShort (len : ℕ) (old new : List ℕ) : Type 0 where
   pub no_shorter : len ≤ length new
   pub no_longer : length new ≤ length old
-  pub front : new ≡ take (length new) old
+  pub front : take len new ≡ take len old

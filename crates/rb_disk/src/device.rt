@@ -33,8 +33,6 @@ pub trait LogDisk {
     fn write_at(&mut self, file: u32, at: u64, bytes: &[u8]) -> Result<(), OutFault>
         requires place { at ≤ length (seen self.old file) }
         requires number { file < 2 ^ 32 - 1 }
-        // A file's length is a length of memory.
-        requires fits { at + length bytes.now < 2 ^ 63 }
         ensures written { OnOk result (Holds (seen self.old file) at bytes.now (seen self.new file)) }
         ensures torn { IsErrOf result OutFault.Failed → Torn at (length bytes.now) (seen self.old file) (seen self.new file) }
         ensures memory { IsErrOf result OutFault.NoMemory → seen self.new file ≡ seen self.old file }

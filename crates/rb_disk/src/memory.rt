@@ -94,7 +94,6 @@ impl LogDisk for MemoryDisk {
     fn write_at(&mut self, file: u32, at: u64, bytes: &[u8]) -> Result<(), OutFault>
         requires place { at ≤ length (slice_index_or self.old file []) }
         requires number { file < 2 ^ 32 - 1 }
-        requires fits { at + length bytes.now < 2 ^ 63 }
         ensures written { OnOk result (Holds (slice_index_or self.old file []) at bytes.now (slice_index_or self.new file [])) }
         ensures torn { IsErrOf result OutFault.Failed → Torn at (length bytes.now) (slice_index_or self.old file []) (slice_index_or self.new file []) }
         ensures memory { IsErrOf result OutFault.NoMemory → slice_index_or self.new file [] ≡ slice_index_or self.old file [] }

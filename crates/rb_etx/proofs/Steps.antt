@@ -1,12 +1,12 @@
 -- One table or one change more: what is left to write of an epoch.
-use Rattle.std.proofs.Common.{◌≡◌, ◌<◌, ℕ, ◌+◌, ◌^◌, zero, suc, List, [], ◌∷◌, ◌++◌, length, get_or, drop, map, refl, sym, ap, arith, add-one, drop-cons, subst}
+use Rattle.std.proofs.Common.{◌≡◌, ◌<◌, ℕ, ◌+◌, ◌^◌, zero, suc, List, [], ◌∷◌, ◌++◌, length, get_or, drop, map, refl, sym, arith, add-one, drop-cons, subst}
 use Rattle.rb_base.specs.declared.schema.Mapped.{Mapped}
 use Rattle.rb_base.specs.declared.change.Change.{Change}
 use Rattle.rb_log_defs.specs.Event.{Placed}
 use Rattle.rb_log_defs.specs.Table.{table_map_event, columns_of}
 use Rattle.rb_log_defs.specs.Rows.{change_event, end_flag}
-use Rattle.rb_log_defs.specs.Epoch.{joined_from, change_events, epoch_events, epoch_bytes}
-use Rattle.rb_log_defs.proofs.Joined.{IsLeft, one_written, more_written, one_fits, more_fits, all_written}
+use Rattle.rb_log_defs.specs.Epoch.{joined_from, change_events}
+use Rattle.rb_log_defs.proofs.Joined.{IsLeft, one_fits, more_fits}
 
 -- a change with another after it does not end the statement
 pub flag_of_more : (changes : List Change) (i : ℕ) → i < length changes → end_flag (drop i changes) ≡ 0

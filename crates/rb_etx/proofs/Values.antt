@@ -1,5 +1,5 @@
 -- The values of a row image, column by column.
-use Rattle.std.proofs.Common.{◌≡◌, ◌<◌, ◌≤◌, ◌+◌, ◌/◌, ℕ, zero, suc, List, [], ◌∷◌, ◌++◌, length, get_or, take, drop, refl, ap, arith, add-one}
+use Rattle.std.proofs.Common.{◌≡◌, ◌<◌, ◌≤◌, ℕ, zero, suc, List, [], ◌∷◌, ◌++◌, length, get_or, take, drop, refl, ap, arith}
 use Rattle.byteorder.specs.Endian.{little_bytes}
 use Rattle.byteorder.proofs.Bytes.{take-bytes_low_first}
 use Rattle.rb_base.specs.declared.schema.Column.{Column}

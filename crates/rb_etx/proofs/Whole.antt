@@ -1,12 +1,11 @@
 -- What is left to write of an epoch behind each of its parts.
-use Rattle.std.proofs.Common.{◌≡◌, ◌<◌, ℕ, ◌+◌, ◌^◌, List, [], ◌∷◌, ◌++◌, length, map, codes, refl, sym, arith, subst}
-use Rattle.std.proofs.lemmas.Grind.{common_steps}
+use Rattle.std.proofs.Common.{◌≡◌, ℕ, ◌+◌, List, [], ◌∷◌, ◌++◌, length, map, codes, refl, sym, arith, subst}
 use Rattle.rb_base.specs.declared.body.EpochBody.{EpochBody}
 use Rattle.rb_log_defs.specs.Event.{Placed, query_event, xid_event}
 use Rattle.rb_log_defs.specs.Table.{table_map_event, status_table}
 use Rattle.rb_log_defs.specs.Rows.{status_event}
 use Rattle.rb_log_defs.specs.Epoch.{joined_from, change_events, epoch_events, epoch_bytes}
-use Rattle.rb_log_defs.proofs.Joined.{IsLeft, one_written, more_written, all_written}
+use Rattle.rb_log_defs.proofs.Joined.{IsLeft, one_written, more_written}
 
 -- behind the changes
 abbrev pub after_changes : EpochBody → List Placed

@@ -1,20 +1,19 @@
 -- How the bodies of a journal grow with its entries.
-use Rattle.std.proofs.Common.{◌≡◌, ◌≢◌, ℕ, zero, suc, ◌+◌, ◌%◌, ◌<◌, Bool, true, false, cond, eqb, List, [], ◌∷◌, ◌++◌, filter, map, take, refl, sym, ap, subst, ◌∙◌, arith, append_assoc}
-use Rattle.std.specs.Prelude.{◌==◌, ◌&&◌, not, Option, Some, None, if◌then◌else◌}
+use Rattle.std.proofs.Common.{◌≡◌, ℕ, ◌+◌, ◌%◌, ◌<◌, Bool, true, false, cond, List, [], ◌∷◌, ◌++◌, filter, map, refl, sym, ap, ◌∙◌, arith}
+use Rattle.std.specs.Prelude.{◌==◌, Option, if◌then◌else◌}
 use Rattle.std.specs.List.{AllByRecursion, flat_map}
 use Rattle.std.proofs.lemmas.Bool.{ne_eqb}
 use Rattle.std.proofs.lemmas.List.{append-nil, map-append}
 use Rattle.std.proofs.lemmas.List.Elements.{filter-append}
 use Rattle.std.proofs.Math.Nat.{mod-one}
 use Rattle.rb_base.specs.Bucket.{bucket_number}
-use Rattle.rb_base.specs.Site.{server_of}
 use Rattle.rb_base.specs.declared.epoch.Epoch.{Epoch}
 use Rattle.rb_base.specs.declared.site.SiteId.{SiteId}
 use Rattle.rb_base.specs.declared.site.SiteId.TheVariants.{A, B}
 use Rattle.rb_base.specs.declared.change.Change.{Change}
 use Rattle.rb_base.specs.declared.body.EpochBody.{EpochBody}
-use Rattle.rb_journal_defs.specs.Journal.{Entry, Client, Applied, Closed, Journal, epoch_of, changes_of, closed_epochs}
-use Rattle.rb_journal_defs.specs.Body.{Shape, changes_in, in_bucket, part_of, numbers_below, is_logged, body_changes, last_source, reflected_in, is_named_in, body_with, body_of, has_something_to_log, completed_epochs, completed_bodies}
+use Rattle.rb_journal_defs.specs.Journal.{Entry, Client, Applied, Closed, Journal, epoch_of, closed_epochs}
+use Rattle.rb_journal_defs.specs.Body.{Shape, changes_in, in_bucket, numbers_below, is_logged, last_source, reflected_in, body_with, body_of, has_something_to_log, completed_epochs, completed_bodies}
 
 -- a journal's entry adds nothing to other epochs
 changes_in_other : (site : SiteId) (epoch : ℕ) (entry : Entry) (older : Journal) → (epoch_of entry ≡ epoch → ⊥) → changes_in site epoch (entry ∷ older) ≡ changes_in site epoch older
@@ -143,6 +142,6 @@ unfolding body_made
 body_of_one_bucket shape epoch journal one logged =
     body_is_made shape epoch journal
     ∙ ap (λ (cs : List Change). body_with shape epoch (reflected_in shape.site epoch journal) cs)
-        (ap (λ (n : ℕ). filter (is_logged shape.site) (flat_map (λ bucket. in_bucket n bucket (changes_in shape.site epoch journal)) (numbers_below n))) one
-        ∙ ap (filter (is_logged shape.site)) (append-nil (in_bucket 1 0 (changes_in shape.site epoch journal)) ∙ filter_all (λ change. bucket_number change.table change.key 1 == 0) (changes_in shape.site epoch journal) (one_bucket (changes_in shape.site epoch journal)))
-        ∙ filter_all (is_logged shape.site) (changes_in shape.site epoch journal) logged)
+    (ap (λ (n : ℕ). filter (is_logged shape.site) (flat_map (λ bucket. in_bucket n bucket (changes_in shape.site epoch journal)) (numbers_below n))) one
+    ∙ ap (filter (is_logged shape.site)) (append-nil (in_bucket 1 0 (changes_in shape.site epoch journal)) ∙ filter_all (λ change. bucket_number change.table change.key 1 == 0) (changes_in shape.site epoch journal) (one_bucket (changes_in shape.site epoch journal)))
+    ∙ filter_all (is_logged shape.site) (changes_in shape.site epoch journal) logged)

@@ -2,7 +2,6 @@
 -- epoch as one transaction of the binlog, in epoch order, and empty epochs not at all. The buckets are this project's own.
 use Rattle.std.specs.Prelude.{ℕ, zero, suc, ◌==◌, ◌&&◌, ◌||◌, not, Bool, true, false, if◌then◌else◌, List, [], ◌∷◌, ◌++◌, filter, map, take, Option, Some, None, is_some, codes}
 use Rattle.std.specs.List.{flat_map, list_any, enumerate_from}
-use Rattle.std.specs.Option.{option_map}
 use Rattle.rb_base.specs.Bucket.{bucket_number}
 use Rattle.rb_base.specs.Site.{server_of}
 use Rattle.rb_base.specs.declared.epoch.Epoch.{Epoch}
@@ -13,7 +12,7 @@ use Rattle.rb_base.specs.declared.schema.Schema.{Schema}
 use Rattle.rb_base.specs.declared.schema.Mapped.{Mapped}
 use Rattle.rb_base.specs.declared.change.Change.{Change}
 use Rattle.rb_base.specs.declared.body.EpochBody.{EpochBody}
-use Rattle.rb_journal_defs.specs.Journal.{Entry, Client, Applied, Closed, Journal, epoch_of, changes_of, closed_epochs}
+use Rattle.rb_journal_defs.specs.Journal.{Client, Applied, Closed, Journal, epoch_of, changes_of, closed_epochs}
 
 -- a declared table in the log: schema `db`, its number as id, the key before its columns
 abbrev pub mapped_table : ℕ × Schema → Mapped
@@ -81,18 +80,19 @@ body_with shape epoch reflected changes = record {
   epoch = record { 0 = epoch };
   reflected = reflected;
   tables = filter (is_named_in changes) shape.tables;
-  changes = changes
+  changes = changes;
 }
 
 -- the body of an epoch
 unfoldable pub body_of : Shape → (epoch : ℕ) → Journal → EpochBody
 body_of shape epoch journal = body_with shape epoch (reflected_in shape.site epoch journal) (body_changes shape epoch journal)
 
--- an epoch has something to log where its body has a change or a reflected epoch
+-- there is a change
 abbrev pub is_some_change : List Change → Bool
 is_some_change [] = false
 is_some_change (change ∷ changes) = true
 
+-- an epoch has something to log where its body has a change or a reflected epoch
 abbrev pub has_something_to_log : EpochBody → Bool
 has_something_to_log body = is_some_change body.changes || is_some body.reflected
 

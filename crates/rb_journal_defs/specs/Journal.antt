@@ -1,12 +1,13 @@
 -- The journal of a site, its rows and its closed epochs. After the manual's chapter on NDB Cluster Replication: an epoch holds
 -- whole transactions, and the applier writes its progress with the rows.
-use Rattle.std.specs.Prelude.{ℕ, ◌==◌, ◌&&◌, nat_lt, if◌then◌else◌, List, [], ◌∷◌, ◌++◌, filter, Bool, Option, Some, None, unwrap_or}
+use Rattle.std.specs.Prelude.{ℕ, ◌==◌, ◌&&◌, nat_lt, List, [], ◌∷◌, ◌++◌, filter, map, Bool, Option, Some, None, unwrap_or}
 use Rattle.std.specs.List.{last_or}
 use Rattle.rb_base.specs.Site.{server_of, peer_of}
 use Rattle.rb_base.specs.declared.site.SiteId.{SiteId}
 use Rattle.rb_base.specs.declared.row.Row.{Row}
 use Rattle.rb_base.specs.declared.row.Value.TheVariants as values
-use Rattle.rb_base.specs.declared.change.Kind.TheVariants.{Update}
+use Rattle.rb_base.specs.declared.change.Kind.{Kind}
+use Rattle.rb_base.specs.declared.change.Kind.TheVariants.{Insert, Update, Remove}
 use Rattle.rb_base.specs.declared.change.Change.{Change}
 
 -- what a site does: it accepts a client's transaction in its open epoch, applies an epoch of its peer in its own open epoch,
@@ -36,7 +37,7 @@ status_change site source transid =
       before = None;
       after = Some (record { values = values.Num peer ∷ values.Num source ∷ [] });
       author = peer;
-      transid = transid
+      transid = transid;
     }
 
 -- the changes of an entry, in order
@@ -45,17 +46,26 @@ changes_of site (Client epoch transid changes) = changes
 changes_of site (Applied epoch source transid accepted refreshes) = accepted ++ (refreshes ++ status_change site source transid ∷ [])
 changes_of site (Closed epoch) = []
 
--- the changes of one key of a table
+-- a change names this key of this table
 abbrev pub names_key : (table key : ℕ) → Change → Bool
 names_key table key change = (change.table == table) && (change.key == key)
 
+-- those of these changes that name the key
 abbrev pub of_key : (table key : ℕ) → List Change → List Change
 of_key table key changes = filter (names_key table key) changes
 
--- the row that changes of one key, oldest first, leave
+-- the row that a change leaves: its after image, and none where it removes
+abbrev pub row_after_kind : Kind → Option Row → Option Row
+row_after_kind Insert after = after
+row_after_kind Update after = after
+row_after_kind Remove after = None
+
+abbrev pub row_after : Change → Option Row
+row_after change = row_after_kind change.kind change.after
+
+-- what changes of one key leave of its row: what the last of them leaves, or the row as it was
 abbrev pub row_left : List Change → Option Row → Option Row
-row_left [] row = row
-row_left (change ∷ later) row = row_left later change.after
+row_left changes row = unwrap_or (last_or None (map row_after changes)) row
 
 -- the row of a key: what the last change of it left, or none
 abbrev pub row_at : SiteId → (table key : ℕ) → Journal → Option Row

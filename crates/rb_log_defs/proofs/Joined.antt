@@ -14,9 +14,9 @@ pub joined_append : (start : ℕ) (events later : List Placed) →
 joined_append start [] later = grind (arith, common_steps)
 joined_append start (event ∷ events) later =
     let inner : joined_from (start + length (event start)) (events ++ later) ≡ joined_from (start + length (event start)) events ++ joined_from (start + length (event start) + length (joined_from (start + length (event start)) events)) later
-        = joined_append (start + length (event start)) events later in
+    = joined_append (start + length (event start)) events later in
     let place : start + length (event start) + length (joined_from (start + length (event start)) events) ≡ start + length (event start ++ joined_from (start + length (event start)) events)
-        = omega (arith, length-append (event start) (joined_from (start + length (event start)) events)) in
+    = omega (arith, length-append (event start) (joined_from (start + length (event start)) events)) in
     rw (inner, place, append_assoc) refl
 
 -- one event more
@@ -24,7 +24,7 @@ pub one_written : (start : ℕ) (written : List ℕ) (event : Placed) (left : Li
     IsLeft start written (event ∷ left) total → IsLeft start (written ++ event (start + length written)) left total
 one_written start written event left total before =
     let place : start + length (written ++ event (start + length written)) ≡ start + length written + length (event (start + length written))
-        = omega (arith, length-append written (event (start + length written))) in
+    = omega (arith, length-append written (event (start + length written))) in
     record { same = rw (place, append_assoc) before.same }
 
 -- a block of events more
@@ -32,7 +32,7 @@ pub more_written : (start : ℕ) (written : List ℕ) (events left : List Placed
     IsLeft start written (events ++ left) total → IsLeft start (written ++ joined_from (start + length written) events) left total
 more_written start written events left total before =
     let place : start + length (written ++ joined_from (start + length written) events) ≡ start + length written + length (joined_from (start + length written) events)
-        = omega (arith, length-append written (joined_from (start + length written) events)) in
+    = omega (arith, length-append written (joined_from (start + length written) events)) in
     record { same = rw (place, append_assoc, ← joined_append (start + length written) events left) before.same }
 
 -- nothing is left
@@ -50,5 +50,5 @@ pub more_fits : (start : ℕ) (written : List ℕ) (events left : List Placed) (
     IsLeft start written (events ++ left) total → length written + length (joined_from (start + length written) events) ≤ length total
 more_fits start written events left total before =
     let same : written ++ (joined_from (start + length written) events ++ joined_from (start + length written + length (joined_from (start + length written) events)) left) ≡ total
-        = rw (← joined_append (start + length written) events left) before.same in
+    = rw (← joined_append (start + length written) events left) before.same in
     omega (arith, simp length-append at (ap length same))

@@ -1,4 +1,3 @@
-pub mod Example
 pub mod Files
 pub mod Joined
 pub mod Sizes

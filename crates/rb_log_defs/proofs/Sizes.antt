@@ -1,14 +1,19 @@
 -- How many bytes each event has, wherever it starts.
-use Rattle.std.proofs.Common.{◌≡◌, ◌≤◌, ◌<◌, ◌*◌, ◌/◌, ℕ, ◌+◌, List, [], ◌∷◌, ◌++◌, length, refl, arith, length-append}
+use Rattle.std.proofs.Common.{◌≡◌, ◌≤◌, ◌*◌, ℕ, ◌+◌, List, [], ◌∷◌, ◌++◌, length, refl, arith, length-append}
 use Rattle.std.proofs.lemmas.List.{length-replicate, length-map}
 use Rattle.std.proofs.lemmas.Grind.{common_steps}
+use Rattle.std.specs.Prelude.{map, codes}
+use Rattle.rb_base.specs.declared.change.Change.{Change}
+use Rattle.rb_base.specs.declared.body.EpochBody.{EpochBody}
+use Rattle.rb_log_defs.specs.Rows.{rows_type, change_payload, end_flag, status_payload, status_event}
+use Rattle.rb_log_defs.specs.Epoch.{joined_from, change_events, epoch_events, epoch_bytes}
 use Rattle.rb_base.specs.Length.{length_bytes}
 use Rattle.rb_base.specs.declared.schema.Column.{Column}
 use Rattle.rb_base.specs.declared.schema.Column.TheVariants.{Num, Long, Text}
 use Rattle.rb_base.specs.declared.schema.Mapped.{Mapped}
-use Rattle.rb_log_defs.specs.Table.{all_metadata, bitmap_size, table_map_payload, table_map_event}
+use Rattle.rb_log_defs.specs.Table.{all_metadata, bitmap_size, table_map_payload, table_map_event, columns_of, status_table}
 use Rattle.rb_log_defs.specs.Fits.{CanBeMapped}
-use Rattle.rb_log_defs.specs.Event.{header_bytes, event_bytes, query_payload, query_event, format_payload, format_event, xid_payload, xid_event}
+use Rattle.rb_log_defs.specs.Event.{Placed, header_bytes, event_bytes, query_payload, query_event, format_payload, format_event, xid_payload, xid_event}
 
 pub header_length : (kind server size end flags : ℕ) → length (header_bytes kind server size end flags) ≡ 19
 unfolding header_bytes
@@ -66,3 +71,56 @@ table_map_payload_length table = simp (length-append, length-map, length-replica
 pub table_map_bound : (server : ℕ) (table : Mapped) (start : ℕ) → CanBeMapped table → length (table_map_event server table start) ≤ 1000
 table_map_bound server table start mapped =
     omega (arith, event_length 19 server (table_map_payload table) start, table_map_payload_length table, metadata_bound table.columns, length_bytes_bound (length table.columns), length_bytes_bound (length (all_metadata table.columns)), mapped.schema, mapped.name, mapped.few)
+
+-- an event that is as long wherever it starts
+abbrev pub IsSameLength : Placed → Type 0
+IsSameLength event = (start other : ℕ) → length (event start) ≡ length (event other)
+
+-- events that are as long wherever they start
+abbrev pub AreSameLength : List Placed → Type 0
+AreSameLength [] = Unit {0}
+AreSameLength (event ∷ events) = IsSameLength event × AreSameLength events
+
+both_same_length : (events later : List Placed) → AreSameLength events → AreSameLength later → AreSameLength (events ++ later)
+both_same_length [] later same rest = rest
+both_same_length (event ∷ events) later same rest = (same.0, both_same_length events later same.1 rest)
+
+joined_same_length : (events : List Placed) → AreSameLength events → (start other : ℕ) → length (joined_from start events) ≡ length (joined_from other events)
+joined_same_length [] same start other = refl
+joined_same_length (event ∷ events) same start other =
+    omega (
+      arith,
+      length-append (event start) (joined_from (start + length (event start)) events),
+      length-append (event other) (joined_from (other + length (event other)) events),
+      same.0 start other,
+      joined_same_length events same.1 (start + length (event start)) (other + length (event other)),
+    )
+
+maps_same_length : (server : ℕ) (tables : List Mapped) → AreSameLength (map (table_map_event server) tables)
+maps_same_length server [] = tt
+maps_same_length server (table ∷ tables) = (event_same_length 19 server (table_map_payload table), maps_same_length server tables)
+
+changes_same_length : (server : ℕ) (tables : List Mapped) (changes : List Change) → AreSameLength (change_events server tables changes)
+changes_same_length server tables [] = tt
+changes_same_length server tables (change ∷ changes) =
+    (event_same_length (rows_type change.kind) server (change_payload (columns_of tables change.table) change (end_flag changes)), changes_same_length server tables changes)
+
+events_same_length : (body : EpochBody) → AreSameLength (epoch_events body)
+events_same_length body =
+    let last : AreSameLength (xid_event body.server body.epoch.0 ∷ []) = (event_same_length 16 body.server (xid_payload body.epoch.0), tt) in
+    let rows : AreSameLength (change_events body.server body.tables body.changes ++ xid_event body.server body.epoch.0 ∷ [])
+    = both_same_length (change_events body.server body.tables body.changes) (xid_event body.server body.epoch.0 ∷ []) (changes_same_length body.server body.tables body.changes) last in
+    let status : AreSameLength (status_event body ∷ (change_events body.server body.tables body.changes ++ xid_event body.server body.epoch.0 ∷ []))
+    = (event_same_length 30 body.server (status_payload body), rows) in (
+      event_same_length 2 body.server (query_payload (codes "BEGIN")),
+      (
+        event_same_length 19 body.server (table_map_payload status_table),
+        both_same_length (map (table_map_event body.server) body.tables) (status_event body ∷ (change_events body.server body.tables body.changes ++ xid_event body.server body.epoch.0 ∷ []))
+            (maps_same_length body.server body.tables) status,
+      ),
+    )
+
+-- the size of an epoch is the same wherever it starts
+pub epoch_same_length : (body : EpochBody) (start other : ℕ) → length (epoch_bytes body start) ≡ length (epoch_bytes body other)
+unfolding epoch_bytes
+epoch_same_length body start other = joined_same_length (epoch_events body) (events_same_length body) start other

@@ -1,4 +1,5 @@
--- An epoch as one transaction of the binlog.
+-- An epoch as one transaction of the binlog. After the manual's chapter on NDB Cluster Replication: the injector writes the
+-- apply-status row with the rows of each epoch.
 use Rattle.std.specs.Prelude.{ℕ, ◌+◌, List, [], ◌∷◌, ◌++◌, length, map, codes}
 use Rattle.rb_base.specs.declared.change.Change.{Change}
 use Rattle.rb_base.specs.declared.body.EpochBody.{EpochBody}

@@ -1,6 +1,6 @@
 -- Events of the binary log, version 4: a header of 19 bytes and a payload. Numbers stand with their lowest byte first.
 -- After the manual's chapter on the binary log's format and event headers.
-use Rattle.std.specs.Prelude.{ℕ, ◌+◌, List, [], ◌∷◌, ◌++◌, length, replicate, codes}
+use Rattle.std.specs.Prelude.{ℕ, ◌+◌, List, ◌∷◌, ◌++◌, length, replicate, codes}
 use Rattle.byteorder.specs.Endian.{little_bytes}
 
 -- an event, by the position in its file at which it starts
@@ -48,15 +48,18 @@ format_payload =
 unfoldable pub xid_payload : ℕ → List ℕ
 xid_payload xid = little_bytes 8 xid
 
--- the events of these payloads, with their types
+-- the query event, of type 2
 abbrev pub query_event : (server : ℕ) (text : List ℕ) → Placed
 query_event server text = event_bytes 2 server (query_payload text)
 
+-- the rotate event, of type 4
 abbrev pub rotate_event : (server position : ℕ) (name : List ℕ) → Placed
 rotate_event server position name = event_bytes 4 server (rotate_payload position name)
 
+-- the format description event, of type 15
 abbrev pub format_event : (server : ℕ) → Placed
 format_event server = event_bytes 15 server format_payload
 
+-- the event that ends a transaction, of type 16
 abbrev pub xid_event : (server xid : ℕ) → Placed
 xid_event server xid = event_bytes 16 server (xid_payload xid)

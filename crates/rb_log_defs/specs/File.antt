@@ -1,4 +1,5 @@
--- The binlog of a site: its files with their rotation, and the index rows of its epochs.
+-- The binlog of a site: its files with their rotation, and the index rows of its epochs. After the manual's chapter on the
+-- binary log: each file begins with a magic number and a format description, and ends with a rotate event.
 use Rattle.std.specs.Prelude.{ℕ, ◌+◌, ◌-◌, nat_le, if◌then◌else◌, List, [], ◌∷◌, ◌++◌, length, fold, replicate, codes}
 use Rattle.std.specs.Fmt.{decimal}
 use Rattle.rb_base.specs.Site.{server_of}
@@ -27,41 +28,39 @@ file_start site = 254 ∷ 98 ∷ 105 ∷ 110 ∷ format_event (server_of site) 4
 abbrev pub rotated : SiteId → (number : ℕ) → (file : List ℕ) → List ℕ
 rotated site number file = file ++ rotate_event (server_of site) 4 (file_name site (number + 1)) (length file)
 
--- a site's binlog: the files, of which the head is written to and the last one is file 1, and the index rows, oldest first
+-- a site's binlog: the files that are full, file 1 first, the last file, which is written to, and the index rows
 pub record Binlog : Type 0 where
-  pub files : List (List ℕ)
+  pub closed : List (List ℕ)
+  pub last : List ℕ
   pub rows : List IndexRow
 
 -- a binlog without an epoch
 abbrev pub new_binlog : SiteId → Binlog
-new_binlog site = record { files = file_start site ∷ []; rows = [] }
+new_binlog site = record { closed = []; last = file_start site; rows = [] }
 
--- the head file with these bytes at its end; where that brings it to the limit it is rotated and the next file begins
-abbrev pub extended : SiteId → (limit : ℕ) → (file : List ℕ) (closed : List (List ℕ)) → List (List ℕ)
-extended site limit file closed =
-    if nat_le limit (length file) then file_start site ∷ rotated site (length closed + 1) file ∷ closed
-    else file ∷ closed
+-- where the last file has come to the limit it is rotated, and the next one begins
+abbrev pub rotated_at : SiteId → (limit : ℕ) → Binlog → Binlog
+rotated_at site limit log =
+    if nat_le limit (length log.last) then
+    record log { closed = log.closed ++ rotated site (length log.closed + 1) log.last ∷ []; last = file_start site }
+    else log
 
--- a binlog with one epoch more, written to its head file
-abbrev pub with_epoch_at : SiteId → (limit : ℕ) → List IndexRow → EpochBody → List (List ℕ) → Binlog
-with_epoch_at site limit rows body [] = record { files = []; rows = rows }
-with_epoch_at site limit rows body (file ∷ closed) =
-    let bytes = epoch_bytes body (length file) in
-    record {
-      files = extended site limit (file ++ bytes) closed;
-      rows = rows ++ index_row site (length closed + 1) (length file) (length file + length bytes) body ∷ [];
-    }
-
+-- an epoch more, at the end of the last file, with its index row
 abbrev pub with_epoch : SiteId → (limit : ℕ) → Binlog → EpochBody → Binlog
-with_epoch site limit log body = with_epoch_at site limit log.rows body log.files
+with_epoch site limit log body =
+    let start = length log.last in
+    let bytes = epoch_bytes body start in
+    let row = index_row site (length log.closed + 1) start (start + length bytes) body in
+    rotated_at site limit (record log { last = log.last ++ bytes; rows = log.rows ++ row ∷ [] })
 
 -- the binlog of these bodies, written in turn
 unfoldable pub binlog_of : SiteId → (limit : ℕ) → List EpochBody → Binlog
 binlog_of site limit bodies = fold (with_epoch site limit) (new_binlog site) bodies
 
--- its files, the newest first, and its index rows, the oldest first
+-- its files, file 1 first
 abbrev pub binlog_files : SiteId → (limit : ℕ) → List EpochBody → List (List ℕ)
-binlog_files site limit bodies = (binlog_of site limit bodies).files
+binlog_files site limit bodies = let log = binlog_of site limit bodies in log.closed ++ log.last ∷ []
 
+-- its index rows, the oldest first
 abbrev pub index_rows : SiteId → (limit : ℕ) → List EpochBody → List IndexRow
 index_rows site limit bodies = (binlog_of site limit bodies).rows

@@ -1,5 +1,6 @@
--- What can be written: tables whose names and columns have room in their fields, rows that fit their columns.
-use Rattle.std.specs.Prelude.{ℕ, ◌<◌, ◌≤◌, ◌^◌, List, [], ◌∷◌, length, All, Option, Some, None, IsNone}
+-- What can be written: tables whose names and columns have room in their fields, rows that fit their columns. After the
+-- row-event chapter of the binlog format, for the widths of the fields.
+use Rattle.std.specs.Prelude.{◌<◌, ◌≤◌, ◌^◌, List, [], ◌∷◌, length, All, Option, Some, None, IsNone}
 use Rattle.rb_base.specs.declared.schema.Column.{Column}
 use Rattle.rb_base.specs.declared.schema.Column.TheVariants as columns
 use Rattle.rb_base.specs.declared.schema.Mapped.{Mapped}
@@ -46,6 +47,7 @@ FitsKind Insert columns before after = IsNone before × IsImage columns after
 FitsKind Update columns before after = IsImage columns before × IsImage columns after
 FitsKind Remove columns before after = IsImage columns before × IsNone after
 
+-- a change fits these columns
 abbrev pub Fits : List Column → Change → Type 0
 Fits columns change = FitsKind change.kind columns change.before change.after
 

@@ -1,6 +1,6 @@
 -- mysql.ndb_binlog_index: where each epoch stands. After the replication schema chapter of the manual; the records of file 0
 -- are this project's own.
-use Rattle.std.specs.Prelude.{ℕ, Bool, true, false, nat_le, List, [], ◌∷◌, ◌++◌, length, count_by, filter, None}
+use Rattle.std.specs.Prelude.{ℕ, Bool, true, false, nat_le, List, [], ◌∷◌, ◌++◌, count_by, filter, None}
 use Rattle.std.specs.List.{flat_map, last_or}
 use Rattle.std.specs.Option.{option_map_or}
 use Rattle.byteorder.specs.Endian.{little_bytes}
@@ -12,16 +12,19 @@ use Rattle.rb_base.specs.declared.change.Kind.TheVariants.{Insert, Update, Remov
 use Rattle.rb_base.specs.declared.body.EpochBody.{EpochBody}
 use Rattle.rb_base.specs.declared.body.IndexRow.{IndexRow}
 
+-- a change that brings a row
 abbrev pub is_insert : Kind → Bool
 is_insert Insert = true
 is_insert Update = false
 is_insert Remove = false
 
+-- a change of a row that is there
 abbrev pub is_update : Kind → Bool
 is_update Insert = false
 is_update Update = true
 is_update Remove = false
 
+-- a change that takes a row away
 abbrev pub is_remove : Kind → Bool
 is_remove Insert = false
 is_remove Update = false
@@ -56,7 +59,8 @@ index_record row =
 unfoldable pub index_file : List IndexRow → List ℕ
 index_file rows = flat_map (λ row. 1 ∷ index_record row) rows ++ 0 ∷ []
 
--- where the log goes on after an epoch: the next place of the last row with an epoch at most that one, or the first file's start
+-- where the log goes on after an epoch: the next place of the last row with an epoch at most that one, or, where there is none,
+-- the first event of file 1
 abbrev pub position_after : List IndexRow → (epoch : ℕ) → ℕ × ℕ
 position_after rows epoch =
     option_map_or (λ row. (row.next_file, row.next_position)) (last_or None (filter (λ row. nat_le row.epoch.0 epoch) rows)) (1, 4)

@@ -1,5 +1,6 @@
 pub mod Event
 pub mod Table
+pub mod Worked
 pub mod Rows
 pub mod Epoch
 pub mod Fits

@@ -86,6 +86,7 @@ change_payload columns change flags =
     rows_payload change.table flags (transid_extra change.transid) (length columns)
     (present_bitmaps change.kind (length columns)) (images_of change.kind columns change.before change.after)
 
+-- that event, by the type of the change's kind
 abbrev pub change_event : (server : ℕ) → List Column → Change → (flags : ℕ) → Placed
 change_event server columns change flags = event_bytes (rows_type change.kind) server (change_payload columns change flags)
 
@@ -103,8 +104,10 @@ reflected_row (Some epoch) = row_image status_columns (status_row 1 epoch.0)
 abbrev pub status_rows : EpochBody → List ℕ
 status_rows body = row_image status_columns (status_row body.server body.epoch.0) ++ reflected_row body.reflected
 
+-- the rows event of the apply-status rows; it carries the flag where no change follows
 unfoldable pub status_payload : EpochBody → List ℕ
 status_payload body = rows_payload 0 (end_flag body.changes) [] (length status_columns) (present_bitmap (length status_columns)) (status_rows body)
 
+-- that event, a write
 abbrev pub status_event : EpochBody → Placed
 status_event body = event_bytes 30 body.server (status_payload body)

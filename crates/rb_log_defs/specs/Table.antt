@@ -38,6 +38,7 @@ table_map_payload table =
     ++ (length_bytes (length (all_metadata table.columns)) ++ (all_metadata table.columns
     ++ zeros (bitmap_size (length table.columns)))))))))))))
 
+-- the table map event, of type 19
 abbrev pub table_map_event : (server : ℕ) → Mapped → Placed
 table_map_event server table = event_bytes 19 server (table_map_payload table)
 
@@ -49,5 +50,6 @@ columns_of tables id = option_map_or (λ table. table.columns) (find (λ table. 
 abbrev pub status_columns : List Column
 status_columns = Long ∷ Num ∷ Text 255 ∷ Num ∷ Num ∷ []
 
+-- that table in the log, with id 0
 abbrev pub status_table : Mapped
 status_table = record { id = 0; schema = codes "mysql"; name = codes "ndb_apply_status"; columns = status_columns }

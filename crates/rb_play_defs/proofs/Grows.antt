@@ -1,5 +1,5 @@
 -- How a run grows: its log only gets longer, and its counts are bounded by its steps.
-use Rattle.std.proofs.Common.{◌≡◌, ◌≤◌, ◌<◌, ℕ, zero, suc, ◌+◌, Bool, true, false, cond, List, [], ◌∷◌, ◌++◌, length, take, drop, fold, refl, sym, ap, subst, ◌∙◌, arith, append_assoc}
+use Rattle.std.proofs.Common.{◌≡◌, ◌≤◌, ◌<◌, ℕ, ◌+◌, Bool, true, false, cond, List, [], ◌∷◌, ◌++◌, length, take, drop, fold, sym, ap, subst, ◌∙◌, arith, append_assoc}
 use Rattle.std.specs.Prelude.{if◌then◌else◌, is_some, count_by}
 use Rattle.std.specs.List.{AllByRecursion}
 use Rattle.std.proofs.lemmas.List.Sums.{fold-append, sum_by-cons, sum_by-append}
@@ -9,7 +9,7 @@ use Rattle.rb_base.specs.declared.body.EpochBody.{EpochBody}
 use Rattle.rb_text_defs.specs.declared.script.Step.{Step}
 use Rattle.rb_text_defs.specs.declared.script.Step.TheVariants.{Insert, Close, Log}
 use Rattle.rb_text_defs.specs.Script.{is_insert}
-use Rattle.rb_journal_defs.specs.Journal.{Client, Closed, Journal, row_at, closed_epochs}
+use Rattle.rb_journal_defs.specs.Journal.{Client, Closed, row_at, closed_epochs}
 use Rattle.rb_journal_defs.specs.Body.{Shape, body_of, completed_bodies, logged_bodies}
 use Rattle.rb_journal_defs.proofs.Bodies.{if_logged, completed_client, completed_closed}
 use Rattle.rb_play_defs.specs.Play.{Progress, beginning, inserted, happens}
@@ -34,7 +34,7 @@ begins_self bodies = record { rest = []; whole_is = sym (append-nil bodies) }
 begins_then : (a b c : List EpochBody) → Begins a b → Begins b c → Begins a c
 begins_then a b c first second = record {
   rest = first.rest ++ second.rest;
-  whole_is = second.whole_is ∙ ap (λ (bs : List EpochBody). bs ++ second.rest) first.whole_is ∙ append_assoc a first.rest second.rest
+  whole_is = second.whole_is ∙ ap (λ (bs : List EpochBody). bs ++ second.rest) first.whole_is ∙ append_assoc a first.rest second.rest;
 }
 
 begins_same : (a b : List EpochBody) → b ≡ a → Begins a b
@@ -58,7 +58,7 @@ goes_insert shape run key value ordered = go (is_some (row_at A 1 key run.journa
         let same = completed_client shape run.opened (run.drawn + 1) (inserted key value (run.drawn + 1) ∷ []) run.journal ordered.below in
         record {
           ordered = record { below = ordered.below; written = let n = ap length same in let h = ordered.written in omega arith };
-          grows = begins_same (logged shape run) (take run.written (completed_bodies shape (Client run.opened (run.drawn + 1) (inserted key value (run.drawn + 1) ∷ []) ∷ run.journal))) (ap (take run.written) same)
+          grows = begins_same (logged shape run) (take run.written (completed_bodies shape (Client run.opened (run.drawn + 1) (inserted key value (run.drawn + 1) ∷ []) ∷ run.journal))) (ap (take run.written) same);
         }
 
 goes_close : (shape : Shape) (run : Progress) → IsOrdered shape run → Goes shape run (happens shape run Close)
@@ -69,7 +69,7 @@ goes_close shape run ordered =
     record {
       ordered = record { below = below_more run.opened (closed_epochs run.journal) ordered.below; written = let h = ordered.written in omega arith };
       grows = begins_same (logged shape run) (take run.written (completed_bodies shape (Closed run.opened ∷ run.journal)))
-          (ap (take run.written) more ∙ take-append-le run.written (completed_bodies shape run.journal) (if_logged (body_of shape run.opened run.journal)) ordered.written)
+          (ap (take run.written) more ∙ take-append-le run.written (completed_bodies shape run.journal) (if_logged (body_of shape run.opened run.journal)) ordered.written);
     }
 
 goes_log : (shape : Shape) (run : Progress) → IsOrdered shape run → Goes shape run (happens shape run Log)
@@ -78,8 +78,8 @@ goes_log shape run ordered = record {
   ordered = record { below = ordered.below; written = omega arith };
   grows = record {
     rest = drop run.written (completed_bodies shape run.journal);
-    whole_is = take_all (length (completed_bodies shape run.journal)) (completed_bodies shape run.journal) (omega arith) ∙ sym (take-append-drop run.written (completed_bodies shape run.journal))
-  }
+    whole_is = take_all (length (completed_bodies shape run.journal)) (completed_bodies shape run.journal) (omega arith) ∙ sym (take-append-drop run.written (completed_bodies shape run.journal));
+  };
 }
 
 goes : (shape : Shape) (run : Progress) (step : Step) → IsOrdered shape run → Goes shape run (happens shape run step)
@@ -95,7 +95,7 @@ pub logged_grows : (shape : Shape) (run : Progress) (steps : List Step) → IsOr
 logged_grows shape run [] ordered = begins_self (logged shape run)
 logged_grows shape run (step ∷ steps) ordered =
     begins_then (logged shape run) (logged shape (happens shape run step)) (logged shape (fold (happens shape) run (step ∷ steps)))
-        (goes shape run step ordered).grows (logged_grows shape (happens shape run step) steps (ordered_more shape run step ordered))
+    (goes shape run step ordered).grows (logged_grows shape (happens shape run step) steps (ordered_more shape run step ordered))
 
 -- transactions are numbered by inserts alone, and epochs by closes
 pub record Counts (run next : Progress) (inserts steps : ℕ) : Type 0 where
@@ -117,7 +117,7 @@ counts_then shape run step steps first later =
     let count : count_by is_insert (step ∷ steps) ≡ cond (is_insert step) 1 0 + count_by is_insert steps = sum_by-cons (λ (s : Step). cond (is_insert s) 1 0) step steps in
     record {
       drawn = let h = first.drawn in let k = later.drawn in omega arith;
-      opened = let h = first.opened in let k = later.opened in omega arith
+      opened = let h = first.opened in let k = later.opened in omega arith;
     }
 
 pub counted : (shape : Shape) (run : Progress) (steps : List Step) → Counts run (fold (happens shape) run steps) (count_by is_insert steps) (length steps)

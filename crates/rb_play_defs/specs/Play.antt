@@ -4,9 +4,7 @@ use Rattle.std.specs.List.{last_or}
 use Rattle.rb_base.specs.declared.site.SiteId.TheVariants.{A}
 use Rattle.rb_base.specs.declared.schema.Column.TheVariants.{Num}
 use Rattle.rb_base.specs.declared.schema.Mapped.{Mapped}
-use Rattle.rb_base.specs.declared.schema.Schema.{Schema}
 use Rattle.rb_base.specs.declared.row.Value.TheVariants as values
-use Rattle.rb_base.specs.declared.row.Row.{Row}
 use Rattle.rb_base.specs.declared.change.Kind.TheVariants as kinds
 use Rattle.rb_base.specs.declared.change.Change.{Change}
 use Rattle.rb_base.specs.declared.body.EpochBody.{EpochBody}
@@ -15,8 +13,8 @@ use Rattle.rb_text_defs.specs.declared.script.Step.TheVariants.{Insert, Close, L
 use Rattle.rb_text_defs.specs.declared.script.Script.{Script}
 use Rattle.rb_text_defs.specs.Report.{report_text}
 use Rattle.rb_log_defs.specs.File.{binlog_files}
-use Rattle.rb_journal_defs.specs.Journal.{Entry, Client, Closed, Journal, row_at}
-use Rattle.rb_journal_defs.specs.Body.{Shape, mapped_tables, completed_epochs, completed_bodies, logged_bodies}
+use Rattle.rb_journal_defs.specs.Journal.{Client, Closed, Journal, row_at}
+use Rattle.rb_journal_defs.specs.Body.{Shape, mapped_tables, completed_bodies, logged_bodies}
 
 -- the first open epoch: micro GCI 0 of GCI 1
 abbrev pub first_epoch : ℕ
@@ -33,6 +31,7 @@ pub record Progress : Type 0 where
   pub drawn : ℕ
   pub written : ℕ
 
+-- a site at the start
 abbrev pub beginning : Progress
 beginning = record { journal = []; opened = first_epoch; drawn = 0; written = 0 }
 
@@ -45,7 +44,7 @@ inserted key value transid = record {
   before = None;
   after = Some (record { values = values.Num key ∷ values.Num value ∷ [] });
   author = 1;
-  transid = transid
+  transid = transid;
 }
 
 -- a client's transaction that inserts a row: it is refused, and changes nothing, where the key is there
@@ -54,7 +53,7 @@ with_insert key value site =
     if is_some (row_at A 1 key site.journal) then site
     else record site {
       journal = Client site.opened (site.drawn + 1) (inserted key value (site.drawn + 1) ∷ []) ∷ site.journal;
-      drawn = site.drawn + 1
+      drawn = site.drawn + 1;
     }
 
 -- what a step does
@@ -84,7 +83,7 @@ log_of script = logged_bodies (shape_of script) (play script).written (play scri
 abbrev pub last_epoch : List EpochBody → ℕ
 last_epoch bodies = unwrap_or (last_or None (map (λ body. body.epoch.0) bodies)) 0
 
--- site A's binlog files then, the newest first
+-- site A's binlog files then, file 1 first
 abbrev pub files_of : Script → List (List ℕ)
 files_of script = binlog_files A default_limit (log_of script)
 

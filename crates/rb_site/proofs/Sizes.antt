@@ -85,16 +85,21 @@ made_length name epoch changes inserts start =
     let at2 : ℕ = at1 + length (second at1) in
     let at3 : ℕ = at2 + length (third at2) in
     let at4 : ℕ = at3 + length (fourth at3) in
-    omega (arith,
+    omega (
+      arith,
       joined_length start first (second ∷ third ∷ fourth ∷ ending name epoch changes),
       joined_length at1 second (third ∷ fourth ∷ ending name epoch changes),
       joined_length at2 third (fourth ∷ ending name epoch changes),
       joined_length at3 fourth (ending name epoch changes),
       query_length 1 (codes "BEGIN") start,
-      event_length 19 1 (table_map_payload status_table) at1, status_map_length,
-      event_length 19 1 (table_map_payload (the_table name)) at2, table_map_length name,
-      event_length 30 1 (status_payload body) at3, status_length (record { 0 = epoch }) (the_table name ∷ []) changes,
-      ending_length name epoch changes inserts at4)
+      event_length 19 1 (table_map_payload status_table) at1,
+      status_map_length,
+      event_length 19 1 (table_map_payload (the_table name)) at2,
+      table_map_length name,
+      event_length 30 1 (status_payload body) at3,
+      status_length (record { 0 = epoch }) (the_table name ∷ []) changes,
+      ending_length name epoch changes inserts at4,
+    )
 
 -- such a body can be written
 fits_one : (name : List ℕ) (change : Change) → IsInserted change → Fits (columns_of (the_table name ∷ []) change.table) change
@@ -118,13 +123,13 @@ made_writable : (name : List ℕ) (epoch : ℕ) (changes : List Change) → leng
 made_writable name epoch changes short inserts = record {
   tables = All-from_recursion CanBeMapped (the_table name ∷ []) (can_be_mapped name short, tt);
   fit = All-from_recursion (λ change. Fits (columns_of (the_table name ∷ []) change.table) change) changes (all_from (λ change. Fits (columns_of (the_table name ∷ []) change.table) change) (fits_one name) changes inserts);
-  mapped = All-from_recursion (λ change. (0 < length (columns_of (the_table name ∷ []) change.table)) × (length (columns_of (the_table name ∷ []) change.table) ≤ 64)) changes (all_from (λ change. (0 < length (columns_of (the_table name ∷ []) change.table)) × (length (columns_of (the_table name ∷ []) change.table) ≤ 64)) (has_columns name) changes inserts)
+  mapped = All-from_recursion (λ change. (0 < length (columns_of (the_table name ∷ []) change.table)) × (length (columns_of (the_table name ∷ []) change.table) ≤ 64)) changes (all_from (λ change. (0 < length (columns_of (the_table name ∷ []) change.table)) × (length (columns_of (the_table name ∷ []) change.table) ≤ 64)) (has_columns name) changes inserts);
 }
 
 made_small : (name : List ℕ) (epoch : ℕ) (change : Change) (changes : List Change) → length name ≤ 32 → AllByRecursion IsInserted (change ∷ changes) → IsSmall (made name epoch (change ∷ changes))
 made_small name epoch change changes short inserts = record {
   writable = made_writable name epoch (change ∷ changes) short inserts;
-  size = λ start. omega (arith, made_length name epoch (change ∷ changes) inserts start)
+  size = λ start. omega (arith, made_length name epoch (change ∷ changes) inserts start);
 }
 
 -- the body of an epoch of this run

@@ -43,7 +43,7 @@ refused name held site key value stands there =
     let same : is_some (row_at A 1 key site.journal) ≡ true = sym (stands.keys key) ∙ there in
     let goal : Bool → Type 0 = λ b. StandsFor name held (if b then site else record site {
       journal = Client site.opened (site.drawn + 1) (inserted key value (site.drawn + 1) ∷ []) ∷ site.journal;
-      drawn = site.drawn + 1
+      drawn = site.drawn + 1;
     }) in
     subst goal (sym same) stands
 
@@ -62,7 +62,7 @@ inserted_row key value transid opened other older =
 accepted_site : Progress → (key value : ℕ) → Progress
 accepted_site site key value = record site {
   journal = Client site.opened (site.drawn + 1) (inserted key value (site.drawn + 1) ∷ []) ∷ site.journal;
-  drawn = site.drawn + 1
+  drawn = site.drawn + 1;
 }
 
 in_open : (site : Progress) (key value : ℕ) → changes_in A site.opened (accepted_site site key value).journal ≡ changes_in A site.opened site.journal ++ inserted key value (site.drawn + 1) ∷ []
@@ -78,7 +78,7 @@ is_accepted : (name : Option (List ℕ)) (held : Holding) (site : Progress) (has
 unfolding accepted_site
 is_accepted name held site has_key key value stands some keys =
     let same : completed_bodies (shape_with name) (accepted_site site key value).journal ≡ completed_bodies (shape_with name) site.journal =
-        completed_client (shape_with name) site.opened (site.drawn + 1) (inserted key value (site.drawn + 1) ∷ []) site.journal stands.below in
+    completed_client (shape_with name) site.opened (site.drawn + 1) (inserted key value (site.drawn + 1) ∷ []) site.journal stands.below in
     let logged : logged_by name (accepted_site site key value) ≡ logged_by name site = ap (take site.written) same in
     let change : Change = inserted key value (held.drawn + 1) in
     record {
@@ -98,7 +98,7 @@ is_accepted name held site has_key key value stands some keys =
       short = stands.short;
       small = stands.small;
       few = let before = stands.few in omega (arith, length-append held.pending (change ∷ []));
-      room = let before = stands.room in omega (arith, length-append held.pending (change ∷ []))
+      room = let before = stands.room in omega (arith, length-append held.pending (change ∷ []));
     }
 
 pub accepted : (name : Option (List ℕ)) (held : Holding) (site : Progress) (has_key : ℕ → Bool) (key value : ℕ) → StandsFor name held site → IsSome name → held.has_key key ≡ false → ((other : ℕ) → has_key other ≡ (if key == other then true else held.has_key other)) → StandsFor name (with_change held has_key (inserted key value (held.drawn + 1))) (happens (shape_with name) site (Insert key value))
@@ -115,7 +115,7 @@ with_close held bodies = record held { opened = held.opened + 1; pending = []; w
 closed_site : Progress → Progress
 closed_site site = record site { journal = Closed site.opened ∷ site.journal; opened = site.opened + 1 }
 
-written_within : (name : Option (List ℕ)) (held : Holding) (site : Progress) → StandsFor name held site → site.written ≤ length (completed_bodies (shape_with name) site.journal)
+pub written_within : (name : Option (List ℕ)) (held : Holding) (site : Progress) → StandsFor name held site → site.written ≤ length (completed_bodies (shape_with name) site.journal)
 written_within name held site stands =
     let all : length (completed_bodies (shape_with name) site.journal) ≡ length (logged_by name site) + length held.waiting = ap length stands.completed ∙ length-append (logged_by name site) held.waiting in
     omega (arith, stands.count)
@@ -147,7 +147,7 @@ closed_with name held site bodies stands adds small light some =
       short = stands.short;
       small = all_append IsSmall held.waiting bodies stands.small small;
       few = let before = stands.few in omega (arith, length-append held.waiting bodies);
-      room = let before = stands.room in omega (arith, sum_by-append (λ (body : EpochBody). most_of_change * length body.changes) held.waiting bodies)
+      room = let before = stands.room in omega (arith, sum_by-append (λ (body : EpochBody). most_of_change * length body.changes) held.waiting bodies);
     }
 
 -- an epoch without a change
@@ -165,7 +165,7 @@ closed_some name held site change changes stands some =
     let both = closed_small name site.opened site.journal change changes there stands.short.0 inserts in
     let is_small : IsSmall (made name held.opened (change ∷ changes)) = subst IsSmall is both.0 in
     closed_with (Some name) held site (made name held.opened (change ∷ changes) ∷ []) stands
-        (both.1 ∙ ap (λ (body : EpochBody). body ∷ []) is) (is_small, tt) (let lengths : length held.pending ≡ length (change ∷ changes) = ap length some in omega arith) (let lengths : length held.pending ≡ length (change ∷ changes) = ap length some in omega arith)
+    (both.1 ∙ ap (λ (body : EpochBody). body ∷ []) is) (is_small, tt) (let lengths : length held.pending ≡ length (change ∷ changes) = ap length some in omega arith) (let lengths : length held.pending ≡ length (change ∷ changes) = ap length some in omega arith)
 
 last_from : (o : Option ℕ) (bodies : List EpochBody) → unwrap_or (last_or o (map (λ body. body.epoch.0) bodies)) 0 ≡ last_after (unwrap_or o 0) bodies
 last_from o [] = refl
@@ -203,7 +203,7 @@ logged_all name held site file stands files light =
       short = stands.short;
       small = tt;
       few = let before = stands.few in omega arith;
-      room = let before = stands.room in omega arith
+      room = let before = stands.room in omega arith;
     }
 
 -- a new site, whose file begins
@@ -236,7 +236,7 @@ begins name short = record {
   short = short;
   small = tt;
   few = omega arith;
-  room = omega (arith, start_length)
+  room = omega (arith, start_length);
 }
 
 -- the same, for what a site's value holds
@@ -257,8 +257,8 @@ closes_some name held run tables pending waiting stands some are_tables empty wa
     go [] none = absurd (some none)
     go (change ∷ changes) is =
         let waits_for : waiting ≡ held.waiting ++ record { server = 1; epoch = record { 0 = held.opened }; reflected = None; tables = tables_of name; changes = change ∷ changes } ∷ [] =
-            waits ∙ ap (λ (ts : List Mapped). held.waiting ++ record { server = 1; epoch = record { 0 = held.opened }; reflected = None; tables = ts; changes = held.pending } ∷ []) are_tables
-            ∙ ap (λ (cs : List Change). held.waiting ++ record { server = 1; epoch = record { 0 = held.opened }; reflected = None; tables = tables_of name; changes = cs } ∷ []) is in
+        waits ∙ ap (λ (ts : List Mapped). held.waiting ++ record { server = 1; epoch = record { 0 = held.opened }; reflected = None; tables = ts; changes = held.pending } ∷ []) are_tables
+        ∙ ap (λ (cs : List Change). held.waiting ++ record { server = 1; epoch = record { 0 = held.opened }; reflected = None; tables = tables_of name; changes = cs } ∷ []) is in
         let goal : List Change → List EpochBody → Type 0 = λ ps ws. StandsFor name (record held { opened = held.opened + 1; pending = ps; waiting = ws }) (happens (shape_with name) run Close) in
         subst (λ (ws : List EpochBody). goal pending ws) (sym waits_for) (subst (λ (ps : List Change). goal ps (held.waiting ++ record { server = 1; epoch = record { 0 = held.opened }; reflected = None; tables = tables_of name; changes = change ∷ changes } ∷ [])) (sym empty) (closes_named name held run change changes stands is))
 
@@ -281,7 +281,7 @@ keys_same name held has_key run stands same = record {
   short = stands.short;
   small = stands.small;
   few = stands.few;
-  room = stands.room
+  room = stands.room;
 }
 
 -- a new site's holding, however its parts are made
@@ -289,14 +289,14 @@ pub begins_with : (name : Option (List ℕ)) (held : Holding) → IsShortName na
 begins_with name held short opened drawn keys pending waiting written last file =
     let P : ℕ → ℕ → List Change → List EpochBody → ℕ → ℕ → List ℕ → Type 0 = λ o d p w n l f. StandsFor name (record { opened = o; drawn = d; has_key = λ _. false; pending = p; waiting = w; written = n; last = l; file = f }) beginning in
     keys_same name (record held { has_key = λ _. false }) held.has_key beginning
-        (subst (λ o. P o held.drawn held.pending held.waiting held.written held.last held.file) (sym opened)
-        (subst (λ d. P (2 ^ 32) d held.pending held.waiting held.written held.last held.file) (sym drawn)
-        (subst (λ (p : List Change). P (2 ^ 32) 0 p held.waiting held.written held.last held.file) (sym pending)
-        (subst (λ (w : List EpochBody). P (2 ^ 32) 0 [] w held.written held.last held.file) (sym waiting)
-        (subst (λ n. P (2 ^ 32) 0 [] [] n held.last held.file) (sym written)
-        (subst (λ l. P (2 ^ 32) 0 [] [] 0 l held.file) (sym last)
-        (subst (λ (f : List ℕ). P (2 ^ 32) 0 [] [] 0 0 f) (sym file) (begins name short))))))))
-        keys
+    (subst (λ o. P o held.drawn held.pending held.waiting held.written held.last held.file) (sym opened)
+    (subst (λ d. P (2 ^ 32) d held.pending held.waiting held.written held.last held.file) (sym drawn)
+    (subst (λ (p : List Change). P (2 ^ 32) 0 p held.waiting held.written held.last held.file) (sym pending)
+    (subst (λ (w : List EpochBody). P (2 ^ 32) 0 [] w held.written held.last held.file) (sym waiting)
+    (subst (λ n. P (2 ^ 32) 0 [] [] n held.last held.file) (sym written)
+    (subst (λ l. P (2 ^ 32) 0 [] [] 0 l held.file) (sym last)
+    (subst (λ (f : List ℕ). P (2 ^ 32) 0 [] [] 0 0 f) (sym file) (begins name short))))))))
+    keys
 
 -- an accepted insert, however the pending changes are made
 pub accepted_with : (name : Option (List ℕ)) (held : Holding) (run : Progress) (has_key : ℕ → Bool) (key value : ℕ) (pending : List Change) → StandsFor name held run → IsSome name → held.has_key key ≡ false → ((other : ℕ) → has_key other ≡ (if key == other then true else held.has_key other)) → pending ≡ held.pending ++ inserted key value (held.drawn + 1) ∷ [] → StandsFor name (record held { drawn = held.drawn + 1; has_key = has_key; pending = pending }) (happens (shape_with name) run (Insert key value))
@@ -311,4 +311,4 @@ logged_with name held run bodies waiting written last file stands all none count
     subst (λ (w : List EpochBody). P w written last) (sym none)
     (subst (λ n. P [] n last) (sym counted)
     (subst (λ l. P [] (held.written + length held.waiting) l) (sym (last_is ∙ ap (last_after held.last) all))
-        (logged_all name held run file stands (ap (λ (bs : List EpochBody). binlog_files A default_limit (logged_by name run ++ bs)) (sym all) ∙ log (logged_by name run) stands.file) (omega arith))))
+    (logged_all name held run file stands (ap (λ (bs : List EpochBody). binlog_files A default_limit (logged_by name run ++ bs)) (sym all) ∙ log (logged_by name run) stands.file) (omega arith))))

@@ -31,10 +31,12 @@ pub record Holding : Type 0 where
 abbrev pub IsInserted : Change → Type 0
 IsInserted change = (key : ℕ) × (value : ℕ) × (transid : ℕ) × (change ≡ inserted key value transid)
 
--- a body that can be written, in so many bytes for each change
+-- how many bytes an epoch takes for each of its changes at most: all of them where it has one change and a name of 32 bytes,
+-- 38 + 62 + 70 + 61 + 57 + 27
 abbrev pub most_of_change : ℕ
 most_of_change = 315
 
+-- a body that can be written, in so many bytes
 pub record IsSmall (body : EpochBody) : Type 0 where
   pub writable : CanBeWritten body
   pub size : (start : ℕ) → length (epoch_bytes body start) ≤ most_of_change * length body.changes

@@ -17,7 +17,7 @@ held_by site file = record {
   waiting = site.waiting.items;
   written = site.written;
   last = site.last.0;
-  file = file
+  file = file;
 }
 
 -- a site over a file stands for where a run has come, of a script that declares this table, or none
@@ -30,9 +30,10 @@ pub record IsSite (name : Option (List ℕ)) (site : Site) (file : List ℕ) (ru
 abbrev pub Stands : Site → (file : List ℕ) → Type 0
 Stands site file = (name : Option (List ℕ)) × (run : Progress) × IsSite name site file run
 
--- how many transactions it has numbered, and its open epoch
+-- how many transactions it has numbered
 abbrev pub drawn_of : Site → ℕ
 drawn_of site = site.drawn
 
+-- its open epoch
 abbrev pub opened_of : Site → ℕ
 opened_of site = site.open.0

@@ -3,14 +3,17 @@ ghost use Rattle.std.specs.Option.{option_to_list};
 ghost use Rattle.rb_base.specs.Faults.{Rose};
 ghost use Rattle.rb_play_defs.specs.Play.{Progress, happens, beginning, inserted, tables_of, last_epoch};
 ghost use Rattle.rb_journal_defs.specs.Body.{completed_bodies};
-ghost use Rattle.rb_site.specs.Fault.{HasDiskCause, LeavesPart};
+ghost use Rattle.rb_site.specs.Fault.{HasDiskCause, LeavesLog, LeavesPart};
 ghost use Rattle.rb_site.specs.Holding.{shape_with, logged_by, IsShortName};
 ghost use Rattle.rb_base.specs.declared.row.Value.TheVariants.{Num};
 ghost use Rattle.rb_text_defs.specs.declared.script.Step.TheVariants.{Insert, Close, Log};
 
 use crate::fault::SiteFault;
 use crate::writer::{LogEnd, begin_file, write_bodies};
-use rb_base::{Change, Epoch, EpochBody, Items, Kind, Mapped, MappedTables, NoMemory, Row, SiteId, Value, Values};
+use rb_base::{
+    Change, Epoch, EpochBody, Items, Kind, Mapped, MappedTables, NoMemory, Row, SiteId, Value,
+    Values,
+};
 use rb_disk::LogDisk;
 use std::alloc::Global;
 use std::collections::BTreeSet;
@@ -88,7 +91,8 @@ impl Site {
         })
     }
 
-    /// A client's transaction that inserts a row. It is refused, and changes nothing, where the key is there.
+    /// A client's transaction that inserts a row. It is refused, and changes nothing, where the key is there. At an `Err`
+    /// the site stands for no run any more.
     pub fn insert(&mut self, alloc: Global, key: u64, value: u64) -> Result<(), SiteFault>
         requires room { drawn_of self.old < 2 ^ 64 - 1 }
         ensures ok { OnOk result ((name : Option (List ℕ)) (file : List ℕ) (run : Progress) → IsSome name →
@@ -104,7 +108,8 @@ impl Site {
         Ok(())
     }
 
-    /// The open epoch closes. Its body waits for the log where it has something to log.
+    /// The open epoch closes. Its body waits for the log where it has something to log. At an `Err` the site stands for no
+    /// run any more.
     pub fn close(&mut self, alloc: Global) -> Result<(), SiteFault>
         requires room { opened_of self.old < 2 ^ 64 - 1 }
         ensures ok { OnOk result ((name : Option (List ℕ)) (file : List ℕ) (run : Progress) →
@@ -122,14 +127,15 @@ impl Site {
         Ok(())
     }
 
-    /// The injector writes the bodies that wait, in order, and syncs.
+    /// The injector writes the bodies that wait, in order, and syncs. At an `Err` the site stands for no run any more; what
+    /// the file holds is said.
     pub fn log<D: LogDisk>(&mut self, alloc: Global, disk: &mut D) -> Result<(), SiteFault>
         requires stands { Stands self.old (D.seen disk.old 1) }
         requires few { drawn_of self.old ≤ 400 }
         ensures ok { OnOk result ((name : Option (List ℕ)) (run : Progress) → IsSite name self.old (D.seen disk.old 1) run →
             IsSite name self.new (D.seen disk.new 1) (happens (shape_with name) run Log)) }
         ensures err { IfErr result (λ fault. (name : Option (List ℕ)) (run : Progress) → IsSite name self.old (D.seen disk.old 1) run →
-            LeavesPart (completed_bodies (shape_with name) run.journal) (D.seen disk.new 1) fault) }
+            LeavesLog run.written (completed_bodies (shape_with name) run.journal) (D.seen disk.new 1) fault) }
         ensures others { (other : ℕ) → other ≢ 1 → D.seen disk.new other ≡ D.seen disk.old other }
         ensures cause { HasDiskCause (D.fault_count disk.old) (D.fault_count disk.new) result }
     {

@@ -5,9 +5,10 @@ ghost use Rattle.rb_base.specs.declared.site.SiteId.TheVariants.{A};
 ghost use Rattle.rb_log_defs.specs.Epoch.{epoch_bytes};
 ghost use Rattle.rb_log_defs.specs.Fits.{CanBeWritten};
 ghost use Rattle.rb_log_defs.specs.File.{file_start};
-ghost use Rattle.rb_site.specs.Fault.{HasDiskCause, LeavesPart};
+ghost use Rattle.rb_play_defs.specs.Part.{IsLogOf};
+ghost use Rattle.rb_site.specs.Fault.{HasDiskCause, LeavesLog, LeavesPart};
 ghost use Rattle.rb_site.specs.Holding.{IsSmall, weight, last_after};
-ghost use Rattle.rb_site.specs.Writer.{IsLogOf, IsTorn};
+ghost use Rattle.rb_site.specs.Writer.{IsTorn};
 
 use crate::fault::SiteFault;
 use rb_base::{Epoch, EpochBody, SiteId};
@@ -67,7 +68,7 @@ fn write_body<D: LogDisk>(
     requires fits { at + length (epoch_bytes body.now at) < 2 ^ 32 }
     ensures ok { IfOk result (λ end. (D.seen disk.new 1 ≡ D.seen disk.old 1 ++ epoch_bytes body.now at)
         × (end ≡ at + length (epoch_bytes body.now at))) }
-    ensures err { IfErr result (IsTorn (D.seen disk.old 1) (D.seen disk.new 1)) }
+    ensures err { IfErr result (IsTorn (length (epoch_bytes body.now at)) (D.seen disk.old 1) (D.seen disk.new 1)) }
     ensures others { (other : ℕ) → other ≢ 1 → D.seen disk.new other ≡ D.seen disk.old other }
     ensures cause { HasDiskCause (D.fault_count disk.old) (D.fault_count disk.new) result }
 {
@@ -91,7 +92,7 @@ pub fn write_bodies<D: LogDisk>(
         × (length (D.seen disk.new 1) ≤ length (D.seen disk.old 1) + weight bodies.now)
         × ((done : List EpochBody) → IsLogOf done (D.seen disk.old 1) → IsLogOf (done ++ bodies.now) (D.seen disk.new 1))) }
     ensures err { IfErr result (λ fault. (done : List EpochBody) → IsLogOf done (D.seen disk.old 1) →
-        LeavesPart (done ++ bodies.now) (D.seen disk.new 1) fault) }
+        LeavesLog (length done) (done ++ bodies.now) (D.seen disk.new 1) fault) }
     ensures others { (other : ℕ) → other ≢ 1 → D.seen disk.new other ≡ D.seen disk.old other }
     ensures cause { HasDiskCause (D.fault_count disk.old) (D.fault_count disk.new) result }
 {

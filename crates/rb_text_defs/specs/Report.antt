@@ -9,6 +9,7 @@ use Rattle.rb_base.specs.declared.site.SiteId.TheVariants.{A, B}
 abbrev pub text_of_lines : List (List ℕ) → List ℕ
 text_of_lines lines = flat_map (λ line. line ++ 10 ∷ []) lines
 
+-- the letter of a site
 abbrev pub letter_of : SiteId → List ℕ
 letter_of A = codes "A"
 letter_of B = codes "B"

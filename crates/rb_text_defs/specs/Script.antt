@@ -7,13 +7,15 @@ use Rattle.rb_text_defs.specs.declared.script.Step.TheVariants.{Insert, Close, L
 use Rattle.rb_text_defs.specs.declared.script.Script.{Script}
 use Rattle.rb_text_defs.specs.Words.{lines_of, words_of, number_of, is_name, all_of}
 
--- the greatest script: its bytes, its lines, its transactions
+-- how many bytes a script has at most
 abbrev pub most_bytes : ℕ
 most_bytes = 33554432
 
+-- how many lines
 abbrev pub most_lines : ℕ
 most_lines = 100000
 
+-- how many transactions
 abbrev pub most_inserts : ℕ
 most_inserts = 400
 
@@ -37,6 +39,7 @@ step_of name (what ∷ site ∷ operation ∷ table ∷ key ∷ value ∷ []) =
     then insert_of key value else None
 step_of name _ = None
 
+-- a step that is a transaction
 abbrev pub is_insert : Step → Bool
 is_insert (Insert key value) = true
 is_insert Close = false

@@ -1,4 +1,4 @@
-use Rattle.std.proofs.Common.{◌≡◌, ◌<◌, ◌+◌, ◌^◌, ◌++◌, [], ◌∷◌, List, ℕ, length, map, codes, sym, arith}
+use Rattle.std.proofs.Common.{◌+◌, [], length, map, codes, arith}
 use Rattle.rb_log_defs.specs.Event.{query_event, xid_event}
 use Rattle.rb_log_defs.specs.Table.{table_map_event, status_table}
 use Rattle.rb_log_defs.specs.Rows.{status_event}

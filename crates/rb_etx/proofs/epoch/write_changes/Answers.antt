@@ -1,8 +1,7 @@
-use Rattle.std.proofs.Common.{◌≡◌, ◌<◌, ◌+◌, ◌^◌, ◌++◌, ◌∷◌, List, ℕ, length, map, drop, arith, length-append}
+use Rattle.std.proofs.Common.{◌+◌, ◌++◌, List, ℕ, length, drop, arith, length-append}
 use Rattle.rb_log_defs.specs.Table.{columns_of}
 use Rattle.rb_log_defs.specs.Rows.{change_event, end_flag}
 use Rattle.rb_log_defs.specs.Epoch.{joined_from, change_events}
-use Rattle.rb_log_defs.proofs.Joined.{IsLeft}
 use Rattle.rb_etx.proofs.Steps.{change_left, one_within}
 use Rattle.rb_etx.proofs.Whole.{with_one}
 use Rattle.rb_etx.proofs.epoch.write_changes.Goals as goal

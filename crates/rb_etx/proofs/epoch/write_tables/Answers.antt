@@ -1,7 +1,6 @@
-use Rattle.std.proofs.Common.{◌≡◌, ◌<◌, ◌+◌, ◌^◌, ◌++◌, ◌∷◌, List, ℕ, length, map, drop, arith, length-append}
+use Rattle.std.proofs.Common.{◌+◌, ◌++◌, List, ℕ, length, map, drop, arith, length-append}
 use Rattle.rb_log_defs.specs.Table.{table_map_event}
 use Rattle.rb_log_defs.specs.Epoch.{joined_from}
-use Rattle.rb_log_defs.proofs.Joined.{IsLeft}
 use Rattle.rb_etx.proofs.Steps.{table_left, one_within}
 use Rattle.rb_etx.proofs.epoch.write_tables.Goals as goal
 

@@ -1,4 +1,4 @@
-use Rattle.std.proofs.Common.{rules, ◌≡◌, ◌<◌, ◌+◌, ◌++◌, List, ℕ, suc, length, get_or, drop, sym, subst, arith, append_assoc, add-one}
+use Rattle.std.proofs.Common.{rules, ◌≡◌, ◌<◌, ◌++◌, suc, length, get_or, drop, sym, subst, arith, append_assoc, add-one}
 use Rattle.rb_base.specs.declared.schema.Column.TheVariants.{Num}
 use Rattle.rb_base.specs.declared.row.Value.{Value}
 use Rattle.rb_log_defs.specs.Rows.{value_bytes, values_bytes}

@@ -6,7 +6,7 @@ use Rattle.rb_site.proofs.writer.begin_file.Goals as goal
 pub returns-in_err-write_at-clause-err : goal.returns-in_err-write_at-clause-err
 returns-in_err-write_at-clause-err g c =
     let p = err_from_is_err_and c.from_residual-in_err-write_at.result c.from_residual-in_err-write_at.ensures.1 in
-    rw (p.1, p.2) (not_begun _ _ _ c.requires (torn_fault _ _ _ _ _ _ (sym (ap length c.requires)) c.in_err-write_at.was c.write_at.ensures.torn c.write_at.ensures.memory))
+    rw (p.1, p.2) (not_begun _ _ _ _ c.requires (c.deref.ensures.value ∙ c.in_ok-bytes.ensures.ok) (torn_fault _ _ _ _ _ _ (sym (ap length c.requires)) c.in_err-write_at.was c.write_at.ensures.torn c.write_at.ensures.memory))
 
 pub returns-in_err-sync-clause-err : goal.returns-in_err-sync-clause-err
 returns-in_err-sync-clause-err g c =

@@ -7,5 +7,5 @@ abbrev pub invariant-loop-body : goal.invariant-loop-body
 invariant-loop-body g l = record {
   written : IsWritten (g.D.LogDisk.seen l.initial.disk 1) (g.D.LogDisk.seen l.disk 1) l.bodies l.body-index l.length l.last.0 l.fn.end.last.0;
   others : (other : ℕ) → other ≢ 1 → g.D.LogDisk.seen l.disk other ≡ g.D.LogDisk.seen l.initial.disk other;
-  later : g.D.LogDisk.fault_count l.initial.disk ≤ g.D.LogDisk.fault_count l.disk
+  later : g.D.LogDisk.fault_count l.initial.disk ≤ g.D.LogDisk.fault_count l.disk;
 }

@@ -11,7 +11,7 @@ pub returns-then-is_empty-clause-ok : goal.returns-then-is_empty-clause-ok
 returns-then-is_empty-clause-ok c = λ name file run is. record {
   table = is.table;
   length = is.length;
-  stands = closes_empty name _ run is.stands (nil_from_length _ (omega (arith, c.args.self.now.pending.ok, eqb-true _ _ (sym c.is_empty.ensures ∙ c.if-is_empty.true))))
+  stands = closes_empty name _ run is.stands (nil_from_length _ (omega (arith, c.args.self.now.pending.ok, eqb-true _ _ (sym c.is_empty.ensures ∙ c.if-is_empty.true))));
 }
 
 pub returns-clause-ok : goal.returns-clause-ok
@@ -22,5 +22,5 @@ returns-clause-ok c = λ name file run is. record {
       (λ none. eqb-false _ _ (sym c.is_empty.ensures ∙ c.if-is_empty.false) (omega (arith, c.args.self.now.pending.ok, ap length none)))
       (c.in_ok-tables.ensures ∙ is.table)
       (ap (λ v. v.items) c.replace.ensures.after ∙ c.new.ensures.items)
-      (c.in_ok-push.ensures.items ∙ ap (λ (body : EpochBody). c.args.self.now.waiting.items ++ body ∷ []) (c.body_of.ensures ∙ ap (λ (changes : List Change). record { server = 1; epoch = c.args.self.now.open; reflected = None; tables = c.in_ok-tables.tables; changes = changes }) (c.from_vec-changes.ensures ∙ ap (λ v. v.items) c.replace.ensures.value)))
+      (c.in_ok-push.ensures.items ∙ ap (λ (body : EpochBody). c.args.self.now.waiting.items ++ body ∷ []) (c.body_of.ensures ∙ ap (λ (changes : List Change). record { server = 1; epoch = c.args.self.now.open; reflected = None; tables = c.in_ok-tables.tables; changes = changes }) (c.from_vec-changes.ensures ∙ ap (λ v. v.items) c.replace.ensures.value)));
 }

@@ -7,5 +7,5 @@ pub returns-clause-ok : goal.returns-clause-ok
 returns-clause-ok g c = λ name short is_table. record {
   table = is_table;
   length = c.in_ok-length.ensures.ok.1 ∙ ap length (sym c.in_ok-length.ensures.ok.0);
-  stands = begins_with name _ short refl refl (no_keys _ c.new.ensures.empty) c.new-2.ensures.items c.new-3.ensures.items refl refl c.in_ok-length.ensures.ok.0
+  stands = begins_with name _ short refl refl (no_keys _ c.new.ensures.empty) c.new-2.ensures.items c.new-3.ensures.items refl refl c.in_ok-length.ensures.ok.0;
 }
