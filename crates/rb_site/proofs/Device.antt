@@ -1,5 +1,5 @@
 -- What a device's fault leaves, as the site's callers see it.
-use Rattle.std.proofs.Common.{◌≡◌, ◌≤◌, ℕ, ◌+◌, List, [], ◌∷◌, ◌++◌, length, take, drop, Result, Ok, Err, refl, sym, ap, subst, ◌∙◌, arith, inl, inr}
+use Rattle.std.proofs.Common.{◌≡◌, ◌≤◌, ℕ, ◌+◌, List, [], ◌∷◌, ◌++◌, length, take, drop, Result, Err, refl, sym, ap, subst, ◌∙◌, arith, inl, inr}
 use Rattle.std.specs.Prelude.{IsErrOf}
 use Rattle.std.proofs.lemmas.List.{append-nil, take-append-drop, take-append-le, drop-append-le, take_all, length-append, length-drop}
 use Rattle.std.proofs.Math.Seq.{drop-nil}
@@ -8,15 +8,13 @@ use Rattle.rb_base.specs.declared.faults.OutFault.TheVariants as outs
 use Rattle.rb_base.specs.declared.site.SiteId.TheVariants.{A}
 use Rattle.rb_base.specs.declared.body.EpochBody.{EpochBody}
 use Rattle.rb_disk.specs.Disk.{Torn, Holds}
-use Rattle.rb_log_defs.specs.Epoch.{epoch_bytes}
-use Rattle.rb_log_defs.specs.File.{file_start, binlog_files}
+use Rattle.rb_log_defs.specs.File.{file_start}
 use Rattle.rb_log_defs.proofs.Files.{one_file_first}
 use Rattle.rb_play_defs.specs.Play.{default_limit}
-use Rattle.rb_play_defs.specs.Part.{HoldsPart, IsUnbegun, IsLogOf, next_bytes}
-use Rattle.rb_site.specs.Fault.{site_fault_of, TearsOnlyBy, LeavesLog, LeavesPart}
+use Rattle.rb_play_defs.specs.Part.{IsLogOf, next_bytes}
+use Rattle.rb_site.specs.Fault.{site_fault_of, LeavesLog, LeavesPart}
 use Rattle.rb_site.specs.Writer.{IsTorn}
 use Rattle.rb_site.specs.declared.fault.SiteFault.{SiteFault}
-use Rattle.rb_site.specs.declared.fault.SiteFault.TheVariants as faults
 
 -- a failed write at a file's end leaves torn bytes there
 torn_at_end : (old new : List ℕ) (n : ℕ) → Torn (length old) n old new → new ≡ old ++ drop (length old) new

@@ -1,29 +1,28 @@
 -- How many bytes the bodies of this run's epochs take.
-use Rattle.std.proofs.Common.{◌≡◌, ◌≤◌, ◌<◌, ℕ, zero, suc, ◌+◌, ◌*◌, Bool, true, false, cond, List, [], ◌∷◌, ◌++◌, length, map, refl, sym, ap, subst, ◌∙◌, arith, length-append}
-use Rattle.std.specs.Prelude.{codes, Some, None, Option, filter}
+use Rattle.std.proofs.Common.{◌≡◌, ◌≤◌, ◌<◌, ℕ, ◌+◌, ◌*◌, Bool, true, cond, List, [], ◌∷◌, ◌++◌, length, refl, sym, ap, subst, ◌∙◌, arith, length-append}
+use Rattle.std.specs.Prelude.{codes, Some, None, Option}
 use Rattle.std.specs.List.{AllByRecursion}
 use Rattle.rb_base.specs.Length.{length_bytes}
 use Rattle.rb_base.specs.declared.epoch.Epoch.{Epoch}
-use Rattle.rb_base.specs.declared.schema.Column.{Column}
 use Rattle.rb_base.specs.declared.schema.Column.TheVariants.{Num}
 use Rattle.rb_base.specs.declared.schema.Mapped.{Mapped}
 use Rattle.rb_base.specs.declared.change.Change.{Change}
 use Rattle.rb_base.specs.declared.body.EpochBody.{EpochBody}
-use Rattle.rb_log_defs.specs.Event.{Placed, event_bytes, query_event, xid_event}
+use Rattle.rb_log_defs.specs.Event.{Placed, query_event, xid_event}
 use Rattle.rb_log_defs.specs.Table.{table_map_payload, table_map_event, status_table, columns_of}
 use Rattle.rb_log_defs.specs.Rows.{text_bytes, row_image, rows_payload, change_payload, change_event, status_payload, status_event, end_flag}
-use Rattle.rb_log_defs.specs.Epoch.{joined_from, change_events, epoch_events, epoch_bytes}
+use Rattle.rb_log_defs.specs.Epoch.{joined_from, change_events, epoch_bytes}
 use Rattle.std.specs.Prelude.{◌==◌, ◌||◌}
 use Rattle.std.specs.List.{list_any}
 use Rattle.std.proofs.lemmas.List.Elements.{All-from_recursion}
 use Rattle.rb_base.specs.declared.site.SiteId.TheVariants.{A}
 use Rattle.rb_log_defs.specs.Fits.{Fits, CanBeMapped, CanBeWritten}
 use Rattle.rb_journal_defs.specs.Journal.{Journal}
-use Rattle.rb_journal_defs.specs.Body.{Shape, changes_in, is_logged, body_with, body_of}
+use Rattle.rb_journal_defs.specs.Body.{changes_in, is_logged, body_with, body_of}
 use Rattle.rb_journal_defs.proofs.Bodies.{AllLogged, if_logged, body_of_one_bucket}
 use Rattle.rb_log_defs.proofs.Sizes.{event_length, query_length, xid_length}
-use Rattle.rb_play_defs.specs.Play.{inserted, tables_of}
-use Rattle.rb_site.specs.Holding.{IsInserted, IsSmall, most_of_change, shape_with}
+use Rattle.rb_play_defs.specs.Play.{inserted}
+use Rattle.rb_site.specs.Holding.{IsInserted, IsSmall, shape_with}
 
 -- the table of a name
 abbrev pub the_table : List ℕ → Mapped

@@ -1,27 +1,24 @@
 -- How what a site holds goes on standing for the run, step by step.
-use Rattle.std.proofs.Common.{◌≡◌, ◌≢◌, ◌≤◌, ◌<◌, ◌^◌, ℕ, zero, suc, ◌+◌, ◌*◌, Bool, true, false, cond, List, [], ◌∷◌, ◌++◌, length, map, take, drop, fold, refl, sym, ap, subst, ◌∙◌, arith, length-append, append_assoc}
-use Rattle.std.specs.Prelude.{Option, Some, None, IsSome, is_some, if◌then◌else◌, ◌==◌, ◌&&◌, filter, sum_by, unwrap_or}
+use Rattle.std.proofs.Common.{◌≡◌, ◌≤◌, ◌<◌, ◌^◌, ℕ, ◌+◌, ◌*◌, Bool, true, false, cond, List, [], ◌∷◌, ◌++◌, length, map, take, refl, sym, ap, subst, ◌∙◌, arith, length-append, append_assoc}
+use Rattle.std.specs.Prelude.{Option, Some, None, IsSome, is_some, if◌then◌else◌, ◌==◌, unwrap_or}
 use Rattle.std.specs.List.{AllByRecursion, last_or}
-use Rattle.std.proofs.lemmas.Bool.{ne_eqb, eqb-true, eq-eqb}
+use Rattle.std.proofs.lemmas.Bool.{ne_eqb, eq-eqb}
 use Rattle.std.proofs.lemmas.List.{append-nil, map-append, take-append-le, take_all}
 use Rattle.std.proofs.lemmas.List.Sums.{sum_by-append}
-use Rattle.std.proofs.Math.Seq.{take-append_seam}
 use Rattle.rb_base.specs.declared.site.SiteId.TheVariants.{A}
 use Rattle.rb_base.specs.declared.change.Change.{Change}
-use Rattle.rb_base.specs.declared.row.Row.{Row}
 use Rattle.rb_base.specs.declared.schema.Mapped.{Mapped}
 use Rattle.rb_base.specs.declared.body.EpochBody.{EpochBody}
 use Rattle.rb_text_defs.specs.declared.script.Step.TheVariants.{Insert, Close, Log}
 use Rattle.rb_log_defs.specs.File.{file_start, binlog_files}
-use Rattle.rb_log_defs.specs.Event.{event_bytes, format_event}
 use Rattle.rb_log_defs.proofs.Files.{one_file_first}
 use Rattle.rb_log_defs.proofs.Sizes.{format_length}
-use Rattle.rb_journal_defs.specs.Journal.{Client, Closed, Journal, row_at, closed_epochs, of_key, names_key, row_left}
-use Rattle.rb_journal_defs.specs.Body.{Shape, changes_in, body_of, completed_epochs, completed_bodies, logged_bodies, is_some_change}
+use Rattle.rb_journal_defs.specs.Journal.{Client, Closed, Journal, row_at, closed_epochs, row_left}
+use Rattle.rb_journal_defs.specs.Body.{changes_in, body_of, completed_epochs, completed_bodies, is_some_change}
 use Rattle.rb_journal_defs.proofs.Bodies.{if_logged, changes_in_closed, completed_client, completed_closed}
-use Rattle.rb_play_defs.specs.Play.{Progress, inserted, happens, with_insert, beginning, tables_of, default_limit, last_epoch}
+use Rattle.rb_play_defs.specs.Play.{Progress, inserted, happens, beginning, tables_of, default_limit, last_epoch}
 use Rattle.rb_site.specs.Holding.{shape_with, Holding, IsInserted, IsSmall, most_of_change, weight, IsShortName, logged_by, last_after, StandsFor}
-use Rattle.rb_site.proofs.Sizes.{the_table, made, nothing_closes, closed_small, made_closes}
+use Rattle.rb_site.proofs.Sizes.{made, nothing_closes, closed_small, made_closes}
 
 -- lists
 pub all_append : {X : Type 0} (P : X → Type 0) (xs ys : List X) → AllByRecursion P xs → AllByRecursion P ys → AllByRecursion P (xs ++ ys)

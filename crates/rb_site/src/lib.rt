@@ -11,3 +11,6 @@ mod writer;
 
 pub use fault::SiteFault;
 pub use site::Site;
+
+#[cfg(test)]
+mod tests;

@@ -1,4 +1,4 @@
-use Rattle.std.proofs.Common.{◌∙◌, sym, ap, refl, length}
+use Rattle.std.proofs.Common.{◌∙◌, sym, ap, length}
 use Rattle.std.proofs.lemmas.Result.{err_from_is_err_and}
 use Rattle.rb_site.proofs.Device.{torn_fault, not_begun, begun, written_first}
 use Rattle.rb_site.proofs.writer.begin_file.Goals as goal

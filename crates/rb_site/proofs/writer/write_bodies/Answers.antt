@@ -1,7 +1,5 @@
-use Rattle.std.proofs.Common.{sym, ap, ◌∙◌, arith, length, take, get_or, ◌++◌, append_assoc}
+use Rattle.std.proofs.Common.{◌∙◌, arith}
 use Rattle.std.proofs.lemmas.Result.{err_from_is_err_and}
-use Rattle.std.proofs.lemmas.List.Elements.{All-from_recursion}
-use Rattle.rb_site.specs.Holding.{IsSmall}
 use Rattle.rb_site.proofs.Writing.{body_written, stopped, leaves_all}
 use Rattle.rb_site.proofs.writer.write_bodies.Goals as goal
 

@@ -1,4 +1,4 @@
-use Rattle.std.proofs.Common.{◌∙◌, sym, ap, arith, refl, length}
+use Rattle.std.proofs.Common.{◌∙◌, sym, ap, refl, length}
 use Rattle.rb_site.proofs.Steps.{begins_with}
 use Rattle.rb_site.proofs.Keys.{no_keys}
 use Rattle.rb_site.proofs.site.Site.create.Goals as goal

@@ -1,4 +1,4 @@
-use Rattle.std.proofs.Common.{◌∙◌, sym, ap, arith, List, [], ◌∷◌, ◌++◌}
+use Rattle.std.proofs.Common.{◌∙◌, sym, ap, [], ◌∷◌, ◌++◌}
 use Rattle.rb_base.specs.declared.change.Change.{Change}
 use Rattle.std.proofs.lemmas.Bool.{not-false, not-true}
 use Rattle.rb_site.proofs.Steps.{refused, accepted_with, keys_same}

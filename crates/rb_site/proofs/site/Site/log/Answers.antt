@@ -1,4 +1,4 @@
-use Rattle.std.proofs.Common.{◌∙◌, sym, ap, arith, length}
+use Rattle.std.proofs.Common.{arith}
 use Rattle.rb_site.proofs.Steps.{logged_with}
 use Rattle.rb_site.proofs.site.Site.log.Goals as goal
 

@@ -1,0 +1,41 @@
+-- What the process ends with, and the line that it writes on standard error before.
+use Rattle.std.specs.Prelude.{ℕ, List, [], ◌∷◌, ◌++◌, codes}
+use Rattle.std.specs.Fmt.{decimal}
+use Rattle.rb_base.specs.declared.site.SiteId.TheVariants.{A, B}
+use Rattle.rb_script.specs.declared.fault.ScriptKind.{ScriptKind}
+use Rattle.rb_script.specs.declared.fault.ScriptKind.TheVariants.{Syntax}
+use Rattle.rb_top.specs.declared.status.Status.{Status}
+use Rattle.rb_top.specs.declared.status.Status.TheVariants as statuses
+
+-- the number that a shell sees
+abbrev pub exit_number_of : Status → ℕ
+exit_number_of statuses.Done = 0
+exit_number_of statuses.Usage = 2
+exit_number_of (statuses.BadScript line kind) = 3
+exit_number_of statuses.ReadFault = 4
+exit_number_of statuses.WriteFault = 5
+exit_number_of (statuses.DiskFault site) = 6
+exit_number_of statuses.NoMemory = 7
+
+-- a text, and the line feed that ends its line
+abbrev pub line_of : List ℕ → List ℕ
+line_of text = text ++ 10 ∷ []
+
+-- what is wrong with a script
+abbrev pub kind_of : ScriptKind → List ℕ
+kind_of Syntax = codes "syntax"
+
+-- the line on a script that is not legal
+abbrev pub bad_script_line : (line : ℕ) → ScriptKind → List ℕ
+bad_script_line line kind = line_of (codes "bad script: line " ++ (decimal line ++ (codes " " ++ kind_of kind)))
+
+-- the line that tells a status, and nothing where nothing failed
+abbrev pub fault_line_of : Status → List ℕ
+fault_line_of statuses.Done = []
+fault_line_of statuses.Usage = line_of (codes "usage: run")
+fault_line_of (statuses.BadScript line kind) = bad_script_line line kind
+fault_line_of statuses.ReadFault = line_of (codes "read fault")
+fault_line_of statuses.WriteFault = line_of (codes "write fault")
+fault_line_of (statuses.DiskFault A) = line_of (codes "disk fault A")
+fault_line_of (statuses.DiskFault B) = line_of (codes "disk fault B")
+fault_line_of statuses.NoMemory = line_of (codes "no memory")

@@ -1,0 +1,61 @@
+ghost use Rattle.std.specs.Prelude.{◌≡◌, IfOk, IsErrOf, OnOk, OnErr};
+ghost use Rattle.std.specs.Io.KnownBytes.{Appends};
+ghost use Rattle.rb_base.specs.Faults.{Rose};
+ghost use Rattle.rb_io.specs.Prefix.{GrowsByPrefix};
+ghost use Rattle.rb_cli.specs.Ending.{exit_number_of, fault_line_of, bad_script_line};
+
+use rb_base::{Bytes, NoMemory, OutFault, SiteId};
+use rb_io::{Sink, write_all};
+use rb_script::ScriptKind;
+use rb_top::Status;
+use std::alloc::Global;
+
+/// The number that the process ends with: 0 at `Done`, and another for each kind of failure.
+pub fn exit_number(status: Status) -> u8
+    ensures { result ≡ exit_number_of status }
+{
+    match status {
+        Status::Done => 0,
+        Status::Usage => 2,
+        Status::BadScript { .. } => 3,
+        Status::ReadFault => 4,
+        Status::WriteFault => 5,
+        Status::DiskFault { .. } => 6,
+        Status::NoMemory => 7,
+    }
+}
+
+/// Writes the line that tells a failure, and nothing at `Done`. At an `Err` a front of it may be written. Only the line
+/// on a bad script takes memory.
+pub fn tell<O: Sink>(alloc: Global, out: &mut O, status: Status) -> Result<(), OutFault>
+    ensures whole { OnOk result (Appends (O.held out.old) (O.held out.new) (fault_line_of status)) }
+    ensures part { OnErr result (GrowsByPrefix (O.held out.old) (O.held out.new) (fault_line_of status)) }
+    ensures failed { IsErrOf result OutFault.Failed → Rose (O.fault_count out.old) (O.fault_count out.new) }
+{
+    match status {
+        Status::Done => write_all(out, b"")?,
+        Status::Usage => write_all(out, b"usage: run\n")?,
+        Status::BadScript { line, kind } => {
+            let text = bad_script_line(alloc, line, kind)?;
+            write_all(out, text.as_slice())?;
+        }
+        Status::ReadFault => write_all(out, b"read fault\n")?,
+        Status::WriteFault => write_all(out, b"write fault\n")?,
+        Status::DiskFault { site: SiteId::A } => write_all(out, b"disk fault A\n")?,
+        Status::DiskFault { site: SiteId::B } => write_all(out, b"disk fault B\n")?,
+        Status::NoMemory => write_all(out, b"no memory\n")?,
+    }
+    Ok(())
+}
+
+// The line on a script that is not legal at this line.
+fn bad_script_line(alloc: Global, line: u32, kind: ScriptKind) -> Result<Bytes, NoMemory>
+    ensures { IfOk result (λ text. text ≡ bad_script_line line kind) }
+{
+    let mut text = Vec::from_slice(alloc, b"bad script: line ")?;
+    text.extend_from_slice(line.to_string(alloc)?.as_bytes())?;
+    text.extend_from_slice(match kind {
+        ScriptKind::Syntax => b" syntax\n",
+    })?;
+    Ok(Bytes::from_vec(text))
+}

@@ -1,0 +1,52 @@
+//! The program: it hands the process's arguments, its standard streams and two devices in memory to [`rb_top::top`], and
+//! ends with what the status means to a shell.
+//!
+//! Its one contract is that each status has the exit number and the line on standard error that the definitions give.
+//! Below it stands the call of the program, which carries the theorem; nothing stands above.
+#![tactic(auto)]
+
+mod arguments;
+mod ending;
+#[cfg(test)]
+mod tests;
+
+use crate::arguments::arguments;
+use crate::ending::{exit_number, tell};
+use rb_disk::MemoryDisk;
+use rb_io::{StdSink, StdSource};
+use rb_top::{Status, top};
+use std::env::Env;
+use std::io::{Read, Write};
+use std::process::ExitCode;
+use std::thread::Threads;
+
+fn main(rt: HostRuntime) -> ExitCode {
+    let status = run(&rt, rt.stdin(), rt.stdout());
+    // Where standard error fails too, the exit number is all that is left to say.
+    let _ = tell(rt.alloc(), &mut StdSink::new(rt.stderr()), status);
+    ExitCode::from(exit_number(status))
+}
+
+// Runs the program on what the process was started with. Its output is written through: std holds none of it back.
+fn run<R, I, O>(rt: &R, input: I, output: O) -> Status
+where
+    R: Threads + Sync + Env + AllocGlobal,
+    I: Read + Drop,
+    O: Write + Drop,
+{
+    let words = match arguments(rt) {
+        Ok(words) => words,
+        Err(status) => return status,
+    };
+    let mut disk_a = MemoryDisk::new(rt.alloc());
+    let mut disk_b = MemoryDisk::new(rt.alloc());
+    top(
+        rt,
+        rt.alloc(),
+        &words,
+        &mut StdSource::new(input),
+        &mut StdSink::new(output),
+        &mut disk_a,
+        &mut disk_b,
+    )
+}

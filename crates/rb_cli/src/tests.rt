@@ -1,0 +1,92 @@
+use crate::arguments::arguments;
+use crate::ending::tell;
+use rb_base::{Bytes, Numbers, OutFault, SiteId};
+use rb_io::{MemorySink, SteadySink};
+use rb_script::ScriptKind;
+use rb_top::Status;
+use std::alloc::Global;
+use std::env::{Env, FillError};
+use std::test::Fail;
+
+// A command line.
+#[derive(Drop)]
+struct CommandLine {
+    words: Vec<Bytes>,
+}
+
+impl CommandLine {
+    fn new(alloc: Global, words: &[&[u8]]) -> Result<CommandLine, Fail> {
+        let mut all = Vec::new(alloc);
+        for word in words {
+            all.push(Bytes::from_vec(word.to_vec(alloc)?))?;
+        }
+        Ok(CommandLine { words: all })
+    }
+}
+
+impl Env for CommandLine {
+    fn arg(&self, i: usize, buf: &mut [u8]) -> Result<usize, FillError> {
+        let Some(word) = self.words.get(i) else {
+            return Err(FillError::NotPresent);
+        };
+        let bytes = word.as_slice();
+        if bytes.len() > buf.len() {
+            return Err(FillError::TooLong);
+        }
+        buf[..bytes.len()].copy_from_slice(bytes);
+        Ok(bytes.len())
+    }
+
+    fn var(&self, _name: &str, _buf: &mut [u8]) -> Result<usize, FillError> {
+        Err(FillError::NotPresent)
+    }
+
+    fn var_at(&self, _i: usize, _buf: &mut [u8]) -> Result<usize, FillError> {
+        Err(FillError::NotPresent)
+    }
+}
+
+// An argument that is no text is outside the grammar of the words.
+#[test]
+fn arguments_are_words(rt: HostRuntime) -> Result<(), Fail> {
+    let alloc = rt.alloc();
+    let line = CommandLine::new(alloc, &[b"rb_cli", b"run", b"on"])?;
+    let words = arguments(&(line, alloc)).unwrap_or(Vec::new(alloc));
+    assert_eq!(rt; words.len(), 2);
+    assert_eq!(rt; words[0].as_slice(), b"run".as_slice());
+    assert_eq!(rt; words[1].as_slice(), b"on".as_slice());
+    let line = CommandLine::new(alloc, &[b"rb_cli", &[255]])?;
+    assert_eq!(rt; arguments(&(line, alloc)).err(), Some(Status::Usage));
+    Ok(())
+}
+
+#[test]
+fn a_bad_script_is_told(rt: HostRuntime) -> Result<(), Fail> {
+    let alloc = rt.alloc();
+    let status = Status::BadScript {
+        line: 12,
+        kind: ScriptKind::Syntax,
+    };
+    let mut out = SteadySink::new(alloc);
+    tell(alloc, &mut out, Status::Done)?;
+    tell(alloc, &mut out, status)?;
+    tell(alloc, &mut out, Status::DiskFault { site: SiteId::B })?;
+    assert_eq!(rt;
+        out.bytes(),
+        b"bad script: line 12 syntax\ndisk fault B\n".as_slice()
+    );
+    Ok(())
+}
+
+#[test]
+fn a_failing_sink_is_told_nothing(rt: HostRuntime) -> Result<(), Fail> {
+    let alloc = rt.alloc();
+    let failing = Numbers::from_vec(vec![in alloc; 0u64]?);
+    let mut out = MemorySink::new(alloc, failing);
+    assert_eq!(rt;
+        tell(alloc, &mut out, Status::ReadFault),
+        Err(OutFault::Failed)
+    );
+    assert_eq!(rt; out.bytes().len(), 0);
+    Ok(())
+}

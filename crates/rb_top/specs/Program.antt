@@ -1,0 +1,76 @@
+-- What the program's call says at each status.
+use Rattle.std.specs.Prelude.{◌≡◌, ℕ, ◌⊎◌, Bool, false, List, [], ◌∷◌, Option, Some, IfSome, codes}
+use Rattle.std.specs.Str.{bytes_eq}
+use Rattle.std.specs.Io.KnownBytes.{Appends, Keeps, IsAtEnd}
+use Rattle.rb_io.specs.Prefix.{GrowsByPrefix}
+use Rattle.rb_text_defs.specs.declared.script.Script.{Script}
+use Rattle.rb_text_defs.specs.Script.{script_of}
+use Rattle.rb_play_defs.specs.Play.{log_of, report_of}
+use Rattle.rb_play_defs.specs.Part.{HoldsPart, IsUnbegun}
+use Rattle.rb_top.specs.Run.{IsLogOfScript}
+use Rattle.rb_top.specs.declared.status.Status.{Status}
+use Rattle.rb_top.specs.declared.status.Status.TheVariants as statuses
+
+-- the words are the one word `run`
+abbrev pub are_run : List (List ℕ) → Bool
+are_run (word ∷ []) = bytes_eq word (codes "run")
+are_run words = false
+
+-- the script was refused
+abbrev pub IsBadScript : Status → Type 0
+IsBadScript (statuses.BadScript line kind) = Unit {0}
+IsBadScript status = ⊥
+
+-- a device failed
+abbrev pub IsDiskFault : Status → Type 0
+IsDiskFault (statuses.DiskFault site) = Unit {0}
+IsDiskFault status = ⊥
+
+-- the run was never begun
+abbrev pub IsBeforeRun : Status → Type 0
+IsBeforeRun statuses.Usage = Unit {0}
+IsBeforeRun (statuses.BadScript line kind) = Unit {0}
+IsBeforeRun statuses.ReadFault = Unit {0}
+IsBeforeRun status = ⊥
+
+-- a fault ended the run
+abbrev pub IsRunFault : Status → Type 0
+IsRunFault (statuses.DiskFault site) = Unit {0}
+IsRunFault statuses.WriteFault = Unit {0}
+IsRunFault status = ⊥
+
+-- what a script that is not legal may be answered
+abbrev pub IsNotRun : Status → Type 0
+IsNotRun statuses.NoMemory = Unit {0}
+IsNotRun status = IsBeforeRun status
+
+-- the script that these bytes are the text of, where the source tells its bytes
+abbrev pub IsReadFrom : Option (List ℕ) → Script → Type 0
+IsReadFrom left script = IfSome left (λ bytes. script_of bytes ≡ Some script)
+
+-- the whole of a script was read and run: the report was appended to the sink, and the file is the log
+pub record HasRun (left_old left_new held_old held_new : Option (List ℕ)) (file : List ℕ) : Type 0 where
+  pub script : Script
+  pub read : IsReadFrom left_old script
+  pub end : IsAtEnd left_new
+  pub report : Appends held_old held_new (report_of script)
+  pub log : IsLogOfScript script file
+
+-- the run of a script was begun, and stopped with this status: the script was read to its end, the sink has a front of the
+-- report, the file holds a part of the log; torn bytes stand behind it only after a fault of the device, which comes before
+-- anything is printed; at a fault of the sink the log is whole
+pub record HasStopped (left_old left_new held_old held_new : Option (List ℕ)) (file : List ℕ) (status : Status) : Type 0 where
+  pub script : Script
+  pub read : IsReadFrom left_old script
+  pub end : IsAtEnd left_new
+  pub report : GrowsByPrefix held_old held_new (report_of script)
+  pub torn : List ℕ
+  pub log : IsUnbegun torn file ⊎ HoldsPart 0 (log_of script) torn file
+  pub tears : status ≡ statuses.NoMemory → torn ≡ []
+  pub silent : IsDiskFault status → Keeps held_old held_new
+  pub whole : status ≡ statuses.WriteFault → IsLogOfScript script file
+
+-- nothing was done
+pub record IsUntouched (held_old held_new : Option (List ℕ)) (files_old files_new : ℕ → List ℕ) : Type 0 where
+  pub report : Keeps held_old held_new
+  pub files : (file : ℕ) → files_new file ≡ files_old file

@@ -1,0 +1,16 @@
+//! The program: it reads a script, runs it over site A and its log device, and prints the report.
+//!
+//! [`top`] carries the project's theorem: what the sink and the device hold at each status, and when each status comes.
+//! Below stand the parser, the site, the printer, and the edges; the program's `main` stands above.
+#![tactic(auto)]
+
+mod program;
+mod run;
+mod status;
+mod words;
+
+pub use program::top;
+pub use status::Status;
+
+#[cfg(test)]
+mod tests;

@@ -1,0 +1,98 @@
+ghost use Rattle.std.specs.Prelude.{◌≡◌, ◌≢◌, ◌↔◌, ◌⊎◌, ℕ, List, [], Some, None, Bool, true, false, IfSome, is_some};
+ghost use Rattle.rb_base.specs.Faults.{Rose};
+ghost use Rattle.rb_text_defs.specs.Script.{script_of};
+ghost use Rattle.rb_top.specs.Program.{are_run, IsBadScript, IsDiskFault, IsBeforeRun, IsRunFault, IsNotRun, HasRun, HasStopped, IsUntouched};
+
+use crate::run::run;
+use crate::status::Status;
+use crate::words::are_run_words;
+use rb_base::{Bytes, OutFault, SiteId};
+use rb_disk::LogDisk;
+use rb_io::{ReadAllFault, Sink, Source, read_all, write_all};
+use rb_script::{ParseFault, ScriptKind, parse};
+use rb_site::SiteFault;
+use std::alloc::Global;
+use std::thread::Threads;
+
+/// The greatest script, in bytes.
+const MOST_SCRIPT_BYTES: u64 = 33554432;
+
+/// Runs the program. The one word `run` reads the script from the source, runs it over site A, whose log goes to file 1
+/// of its device, and writes the report to the sink. Both devices are empty at the start. Only the source's bytes, the
+/// sink's, and file 1 of site A's device change.
+pub fn top<R: Threads + Sync, I: Source, O: Sink, D: LogDisk>(
+    _rt: &R,
+    alloc: Global,
+    words: &[Bytes],
+    script: &mut I,
+    out: &mut O,
+    disk_a: &mut D,
+    _disk_b: &mut D,
+) -> Status
+    requires a_is_empty { (file : ℕ) → D.seen disk_a.old file ≡ [] }
+    requires b_is_empty { (file : ℕ) → D.seen _disk_b.old file ≡ [] }
+
+    // The headline: at Done the script was read to its end, the sink grew by its report, and file 1 of site A is the binlog
+    // file of the completed epochs that were closed before the last `log A`.
+    ensures run_meets_headline { result ≡ Status.Done →
+        HasRun (I.left script.old) (I.left script.new) (O.held out.old) (O.held out.new) (D.seen disk_a.new 1) }
+    ensures no_other_file_changes { (file : ℕ) → file ≢ 1 → D.seen disk_a.new file ≡ D.seen disk_a.old file }
+    ensures site_b_is_untouched { _disk_b.new ≡ _disk_b.old }
+
+    // A legal script over empty devices is run, unless memory runs out or an object fails.
+    ensures a_legal_script_is_run { (bytes : List ℕ) → are_run words.now ≡ true → I.left script.old ≡ Some bytes →
+        is_some (script_of bytes) ≡ true →
+        (Rose (I.fault_count script.old) (I.fault_count script.new) → ⊥) →
+        (Rose (O.fault_count out.old) (O.fault_count out.new) → ⊥) →
+        (Rose (D.fault_count disk_a.old) (D.fault_count disk_a.new) → ⊥) →
+        (result ≡ Status.Done) ⊎ (result ≡ Status.NoMemory) }
+
+    // When each other status comes.
+    ensures usage_exactly { (result ≡ Status.Usage) ↔ (are_run words.now ≡ false) }
+    ensures bad_script_is_illegal { IsBadScript result → IfSome (I.left script.old) (λ bytes. script_of bytes ≡ None) }
+    ensures an_illegal_script_is_not_run { (bytes : List ℕ) → I.left script.old ≡ Some bytes → script_of bytes ≡ None → IsNotRun result }
+    ensures bad_script_is_named { IsBadScript result → result ≡ Status.BadScript 0 ScriptKind.Syntax }
+    ensures read_fault_has_cause { result ≡ Status.ReadFault → Rose (I.fault_count script.old) (I.fault_count script.new) }
+    ensures write_fault_has_cause { result ≡ Status.WriteFault → Rose (O.fault_count out.old) (O.fault_count out.new) }
+    ensures disk_fault_has_cause { IsDiskFault result → Rose (D.fault_count disk_a.old) (D.fault_count disk_a.new) }
+    ensures disk_fault_names_site_a { IsDiskFault result → result ≡ Status.DiskFault SiteId.A }
+
+    // What each other status leaves.
+    ensures usage_touches_nothing { result ≡ Status.Usage → (script.new ≡ script.old) × (out.new ≡ out.old) × (disk_a.new ≡ disk_a.old) }
+    ensures no_run_touches_no_output { IsBeforeRun result → (out.new ≡ out.old) × (disk_a.new ≡ disk_a.old) }
+    ensures a_fault_leaves_a_part { IsRunFault result →
+        HasStopped (I.left script.old) (I.left script.new) (O.held out.old) (O.held out.new) (D.seen disk_a.new 1) result }
+    ensures want_of_memory_leaves_a_part { result ≡ Status.NoMemory →
+        IsUntouched (O.held out.old) (O.held out.new) (D.seen disk_a.old) (D.seen disk_a.new)
+        ⊎ HasStopped (I.left script.old) (I.left script.new) (O.held out.old) (O.held out.new) (D.seen disk_a.new 1) result }
+{
+    if !are_run_words(words) {
+        return Status::Usage;
+    }
+    let bytes = match read_all(alloc, script, MOST_SCRIPT_BYTES) {
+        Ok(bytes) => bytes,
+        Err(ReadAllFault::TooLong) => {
+            return Status::BadScript {
+                line: 0,
+                kind: ScriptKind::Syntax,
+            };
+        }
+        Err(ReadAllFault::Failed) => return Status::ReadFault,
+        Err(ReadAllFault::NoMemory) => return Status::NoMemory,
+    };
+    let parsed = match parse(alloc, bytes.as_slice()) {
+        Ok(parsed) => parsed,
+        Err(ParseFault::Bad { line, kind }) => return Status::BadScript { line, kind },
+        Err(ParseFault::NoMemory) => return Status::NoMemory,
+    };
+    let report = match run(alloc, &parsed, disk_a) {
+        Ok(report) => report,
+        Err(SiteFault::DiskFault) => return Status::DiskFault { site: SiteId::A },
+        Err(SiteFault::NoMemory) => return Status::NoMemory,
+    };
+    match write_all(out, report.as_slice()) {
+        Ok(()) => Status::Done,
+        Err(OutFault::Failed) => Status::WriteFault,
+        Err(OutFault::NoMemory) => Status::NoMemory,
+    }
+}

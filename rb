@@ -1,0 +1,26 @@
+#!/bin/sh
+# Runs the program: ./rb run < SCRIPT. It is proved and built first where it is not yet, or where a source is newer than it.
+here=$(cd "$(dirname "$0")" && pwd) || exit 1
+crate=$here/crates/rb_cli
+program=$crate/out/rb_cli
+log=$crate/out/build.log
+
+is_built() {
+    [ -x "$program" ] && [ -z "$(find "$here/crates.txt" "$here"/crates/*/src "$here"/crates/*/specs "$here"/crates/*/proofs \
+        -newer "$program" 2>/dev/null | head -n 1)" ]
+}
+
+# `rt run` leaves the program in out/ once it is proved. An empty script is legal, so the run of it ends with 0.
+build() {
+    mkdir -p "$crate/out" || return 1
+    (cd "$crate" && rt run -- run) </dev/null >"$log" 2>&1 && touch "$program"
+}
+
+if ! is_built; then
+    echo "rb: proving and building the program, which takes some minutes; the log is crates/rb_cli/out/build.log" >&2
+    if ! build; then
+        echo "rb: the program was not built; the log says why" >&2
+        exit 1
+    fi
+fi
+exec "$program" "$@"
