@@ -17,8 +17,7 @@ pub enum Kind {
 /// One change of one row.
 #[derive(Debug, Drop)]
 pub struct Change {
-    /// The number of the table. User tables count from 1 in the order of the script; table 0 is the apply-status
-    /// table.
+    /// The number of the table: 0 for the apply-status table, else its place in the script's declarations, from 1.
     pub table: u16,
     /// The row's key, which is value 0 of each image.
     pub key: u64,

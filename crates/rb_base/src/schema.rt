@@ -9,7 +9,7 @@ use std::alloc::Global;
 pub enum Column {
     /// LONGLONG: an unsigned number of 8 bytes.
     Num,
-    /// LONG: a number of 4 bytes. It stands only in the apply-status table and in tables that were read from a log.
+    /// LONG: a number of 4 bytes. Only the apply-status table, and tables read back from a log, have it.
     Long,
     /// VARCHAR: at most so many bytes of text.
     Text(u16),

@@ -42,7 +42,7 @@ pub struct Setup {
     pub tables: Schemas,
 }
 
-/// What a client's operation asks for. `Put` is an insert where the key is absent and else an update.
+/// What a client's operation asks for. `Put` overwrites a row that is there, and else inserts one.
 #[derive(Clone, Copy, Debug, PartialEq, Eq)]
 pub enum Op {
     Ins,
@@ -106,7 +106,7 @@ pub enum Event {
         position: u64,
         count: u64,
     },
-    /// Pieces from the wanted place until the peer's last file ends.
+    /// The rest of the peer's log reaches the relay, piece by piece.
     Pull(SiteId),
     /// The oldest decoded epoch is applied.
     Apply(SiteId),

@@ -32,7 +32,7 @@ bad_script_line line kind = line_of (codes "bad script: line " ++ (decimal line 
 -- the line that tells a status, and nothing where nothing failed
 abbrev pub fault_line_of : Status → List ℕ
 fault_line_of statuses.Done = []
-fault_line_of statuses.Usage = line_of (codes "usage: run")
+fault_line_of statuses.Usage = line_of (codes "usage: run [--brief] | read | make SEED COUNT | live")
 fault_line_of (statuses.BadScript line kind) = bad_script_line line kind
 fault_line_of statuses.ReadFault = line_of (codes "read fault")
 fault_line_of statuses.WriteFault = line_of (codes "write fault")

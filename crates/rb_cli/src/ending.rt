@@ -34,7 +34,10 @@ pub fn tell<O: Sink>(alloc: Global, out: &mut O, status: Status) -> Result<(), O
 {
     match status {
         Status::Done => write_all(out, b"")?,
-        Status::Usage => write_all(out, b"usage: run\n")?,
+        Status::Usage => write_all(
+            out,
+            b"usage: run [--brief] | read | make SEED COUNT | live\n",
+        )?,
         Status::BadScript { line, kind } => {
             let text = bad_script_line(alloc, line, kind)?;
             write_all(out, text.as_slice())?;

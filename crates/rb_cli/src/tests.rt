@@ -61,20 +61,32 @@ fn arguments_are_words(rt: HostRuntime) -> Result<(), Fail> {
 }
 
 #[test]
-fn a_bad_script_is_told(rt: HostRuntime) -> Result<(), Fail> {
-    let alloc = rt.alloc();
-    let status = Status::BadScript {
-        line: 12,
-        kind: ScriptKind::Syntax,
-    };
-    let mut out = SteadySink::new(alloc);
-    tell(alloc, &mut out, Status::Done)?;
-    tell(alloc, &mut out, status)?;
-    tell(alloc, &mut out, Status::DiskFault { site: SiteId::B })?;
-    assert_eq!(rt;
-        out.bytes(),
-        b"bad script: line 12 syntax\ndisk fault B\n".as_slice()
-    );
+fn statuses_end_so(rt: HostRuntime) -> Result<(), Fail> {
+    let kind = ScriptKind::Syntax;
+    let cases: [(Status, u8, &[u8]); 8] = [
+        (Status::Done, 0, b""),
+        (
+            Status::Usage,
+            2,
+            b"usage: run [--brief] | read | make SEED COUNT | live\n",
+        ),
+        (
+            Status::BadScript { line: 0, kind },
+            3,
+            b"bad script: line 0 syntax\n",
+        ),
+        (Status::ReadFault, 4, b"read fault\n"),
+        (Status::WriteFault, 5, b"write fault\n"),
+        (Status::DiskFault { site: SiteId::A }, 6, b"disk fault A\n"),
+        (Status::DiskFault { site: SiteId::B }, 6, b"disk fault B\n"),
+        (Status::NoMemory, 7, b"no memory\n"),
+    ];
+    for (status, number, line) in cases {
+        let mut out = SteadySink::new(rt.alloc());
+        tell(rt.alloc(), &mut out, status)?;
+        assert_eq!(rt; exit_number(status), number, "at {number}");
+        assert_eq!(rt; out.bytes(), line, "at {number}");
+    }
     Ok(())
 }
 

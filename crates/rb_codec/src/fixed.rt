@@ -6,11 +6,13 @@ use byteorder::{ByteOrder, LittleEndian};
 use rb_base::NoMemory;
 use std::alloc::Global;
 
-/// The type codes of the events in this file.
+/// The type code of a QUERY event.
 const QUERY_EVENT: u8 = 2;
 
+/// The type code of a FORMAT_DESCRIPTION event.
 const FORMAT_DESCRIPTION_EVENT: u8 = 15;
 
+/// The type code of an XID event.
 const XID_EVENT: u8 = 16;
 
 /// The server version that each log names, at most 50 bytes.

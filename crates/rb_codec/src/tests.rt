@@ -6,7 +6,7 @@ use rb_base::{Column, Items, Mapped, NoMemory};
 use std::alloc::Global;
 use std::test::Fail;
 
-/// Of server 1 at 4, the format description as the manual spells it.
+/// Of server 1 at 4, the format description as docs/LOG_FORMAT.md spells it.
 const FORMAT: [u8; 111] = [
     0, 0, 0, 0, 0x0f, 1, 0, 0, 0, 0x6f, 0, 0, 0, 0x73, 0, 0, 0, 0, 0, 4, 0, 0x38, 0x2e, 0x30, 0x2d,
     0x72, 0x62, 0, 0, 0, 0, 0, 0, 0, 0, 0, 0, 0, 0, 0, 0, 0, 0, 0, 0, 0, 0, 0, 0, 0, 0, 0, 0, 0, 0,

@@ -39,8 +39,8 @@ pub trait LogDisk {
         ensures others { (other : ℕ) → other ≢ file → seen self.new other ≡ seen self.old other }
         ensures cause { HasOutCause (fault_count self.old) (fault_count self.new) result };
 
-    /// Cuts a file to a length. At `Failed` it may have any length from there to the old one; at `NoMemory` it is
-    /// as it was.
+    /// Cuts a file to a length. At `Failed` it may have any length from there to the old one, and any bytes from there
+    /// on; what stands before is as it was. At `NoMemory` the file is as it was.
     fn cut(&mut self, file: u32, len: u64) -> Result<(), OutFault>
         requires { len ≤ length (seen self.old file) }
         ensures cut { OnOk result (seen self.new file ≡ take len (seen self.old file)) }

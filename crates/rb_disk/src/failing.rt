@@ -9,8 +9,8 @@ use crate::memory::MemoryDisk;
 use rb_base::{Failed, Numbers, OutFault};
 use std::marker::Model;
 
-/// A log device in memory that fails at chosen calls. Its calls of `read`, `write_at`, `cut` and `sync` are numbered
-/// together from 0. A call that fails does nothing else. One that ends in want of memory has its number too.
+/// A log device in memory that fails at chosen calls. One count from 0 numbers all its
+/// calls of `read`, `write_at`, `cut` and `sync`. A call that fails does nothing else. One that ends in want of memory has its number too.
 #[derive(Debug, Drop)]
 pub struct FailingDisk {
     inner: MemoryDisk,

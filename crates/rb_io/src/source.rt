@@ -13,8 +13,8 @@ pub trait Source {
     /// How often it has failed.
     ghost fault_count: { Self → ℕ };
 
-    /// Reads the next bytes into the front of `into` and answers how many they are. A read of a non-empty slice
-    /// that answers 0 is the end. At `Failed` no byte is lost, and the count of faults has risen.
+    /// Reads the next bytes into the front of `into` and answers how many they are. 0 for a
+    /// non-empty slice says that nothing follows. At `Failed` no byte is lost, and the count of faults has risen.
     fn read(&mut self, into: &mut [u8]) -> Result<usize, Failed>
         ensures bound { ReadsAtMost result into.new }
         ensures bytes { ReadConsumes (left self.old) (left self.new) result into.new }

@@ -92,7 +92,7 @@ abbrev pub is_some_change : List Change → Bool
 is_some_change [] = false
 is_some_change (change ∷ changes) = true
 
--- an epoch has something to log where its body has a change or a reflected epoch
+-- a body without changes and without a reflected epoch is not logged
 abbrev pub has_something_to_log : EpochBody → Bool
 has_something_to_log body = is_some_change body.changes || is_some body.reflected
 

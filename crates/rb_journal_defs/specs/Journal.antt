@@ -54,12 +54,13 @@ names_key table key change = (change.table == table) && (change.key == key)
 abbrev pub of_key : (table key : ℕ) → List Change → List Change
 of_key table key changes = filter (names_key table key) changes
 
--- the row that a change leaves: its after image, and none where it removes
+-- the after image of an insert or an update, and none of a remove
 abbrev pub row_after_kind : Kind → Option Row → Option Row
 row_after_kind Insert after = after
 row_after_kind Update after = after
 row_after_kind Remove after = None
 
+-- the row that a change leaves, by its kind and its after image
 abbrev pub row_after : Change → Option Row
 row_after change = row_after_kind change.kind change.after
 

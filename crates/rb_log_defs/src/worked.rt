@@ -1,4 +1,4 @@
-ghost use Rattle.std.specs.Prelude.{◌≡◌, [], ◌∷◌, ◌++◌, length, drop};
+ghost use Rattle.std.specs.Prelude.{◌≡◌, [], ◌∷◌, ◌++◌, length, drop, map};
 ghost use Rattle.rb_base.specs.declared.site.SiteId.TheVariants.{A};
 ghost use Rattle.rb_base.specs.declared.schema.Column.TheVariants.{Num, Text};
 ghost use Rattle.rb_log_defs.specs.Table.{all_metadata};
@@ -28,9 +28,12 @@ pub fn empty_epochs()
 {}
 
 /// The same under a limit of 512 bytes, which the second epoch passes: the first file ends with a rotate event, and the
-/// second one begins.
+/// second one begins. A limit that the file just reaches rotates it, one that it does not reach does not.
 pub fn rotation()
     ensures files { behind 683 (binlog_files A 512 around_empty_epochs) ≡ rotate_bytes ∷ [] ∷ [] }
+    ensures exactly { behind 683 (binlog_files A 683 around_empty_epochs) ≡ rotate_bytes ∷ [] ∷ [] }
+    ensures below { behind 683 (binlog_files A 684 around_empty_epochs) ≡ [] ∷ [] }
+    ensures gcis { map (λ row. row.gci) (index_rows A 512 around_empty_epochs) ≡ 1 ∷ 2 ∷ [] }
     ensures second { behind 0 (drop 1 (binlog_files A 512 around_empty_epochs)) ≡ start_bytes ∷ [] }
     ensures places { places_of (index_rows A 512 around_empty_epochs) ≡ (1, 115, 399) ∷ (1, 399, 683) ∷ [] }
 {}

@@ -11,7 +11,7 @@ mod lines;
 mod words;
 
 pub use fault::{ParseFault, ScriptKind};
-pub use lines::parse;
+pub use lines::{MOST_SCRIPT_BYTES, parse};
 pub use rb_text_defs::{Script, Step, Steps};
 
 #[cfg(test)]

@@ -11,7 +11,8 @@ use rb_base::Bytes;
 use rb_text_defs::{Script, Step, Steps};
 use std::alloc::Global;
 
-const MOST_BYTES: usize = 33554432;
+/// How many bytes a script has at most.
+pub const MOST_SCRIPT_BYTES: u64 = 33554432;
 
 const MOST_LINES: usize = 100000;
 
@@ -33,7 +34,7 @@ pub fn parse(alloc: Global, bytes: &[u8]) -> Result<Script, ParseFault>
     ensures few_steps { IfOk result (λ script. length script.steps ≤ 100000) }
     ensures name { IfOk result (λ script. IfSome script.table (λ name. length name ≤ 32)) }
 {
-    if bytes.len() > MOST_BYTES {
+    if bytes.len() as u64 > MOST_SCRIPT_BYTES {
         return Err(BAD);
     }
     if bytes.is_empty() {

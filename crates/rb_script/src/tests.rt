@@ -6,51 +6,53 @@ const BAD: Option<ParseFault> = Some(ParseFault::Bad {
     kind: ScriptKind::Syntax,
 });
 
+/// Scripts that are refused, each with what is wrong in it.
+const REFUSED: [(&str, &[u8]); 22] = [
+    ("a first line that is empty", b"\n"),
+    ("a later line that is empty", b"table t num\n\nlog A\n"),
+    ("two spaces", b"table t num\ntx A  ins t 1 1\n"),
+    ("a leading space", b"table t num\n log A\n"),
+    ("a space at the end", b"table t num\nlog A \n"),
+    ("a tab", b"table\tt num\n"),
+    ("a carriage return", b"table t num\r\nlog A\r\n"),
+    ("a last line that does not end", b"table t num\nlog A"),
+    (
+        "a number of 21 digits",
+        b"table t num\ntx A ins t 000000000000000000001 1\n",
+    ),
+    (
+        "a key above 64 bits",
+        b"table t num\ntx A ins t 18446744073709551616 1\n",
+    ),
+    (
+        "a value above 64 bits",
+        b"table t num\ntx A ins t 1 18446744073709551616\n",
+    ),
+    (
+        "a name of 33 bytes",
+        b"table abcdefghijklmnopqrstuvwxyz0123456 num\n",
+    ),
+    ("a capital in a name", b"table tT num\n"),
+    ("a name that begins with a digit", b"table 1t num\n"),
+    ("a column of text", b"table t text:3\n"),
+    ("a second table", b"table t num\ntable u num\n"),
+    (
+        "a transaction before the table",
+        b"tx A ins t 1 1\ntable t num\n",
+    ),
+    (
+        "two operations",
+        b"table t num\ntx A ins t 1 1 ; ins t 2 2\n",
+    ),
+    ("a word too many", b"table t num\ntx A ins t 1 1 1\n"),
+    ("another table", b"table t num\ntx A ins u 1 1\n"),
+    ("the other site", b"table t num\nepoch B\n"),
+    ("no number", b"table t num\ntx A ins t 1 -1\n"),
+];
+
 #[test]
 fn refuses(rt: HostRuntime) {
-    let cases: [(&str, &[u8]); 22] = [
-        ("a first line that is empty", b"\n"),
-        ("a later line that is empty", b"table t num\n\nlog A\n"),
-        ("two spaces", b"table t num\ntx A  ins t 1 1\n"),
-        ("a leading space", b"table t num\n log A\n"),
-        ("a space at the end", b"table t num\nlog A \n"),
-        ("a tab", b"table\tt num\n"),
-        ("a carriage return", b"table t num\r\nlog A\r\n"),
-        ("a last line that does not end", b"table t num\nlog A"),
-        (
-            "a number of 21 digits",
-            b"table t num\ntx A ins t 000000000000000000001 1\n",
-        ),
-        (
-            "a key above 64 bits",
-            b"table t num\ntx A ins t 18446744073709551616 1\n",
-        ),
-        (
-            "a value above 64 bits",
-            b"table t num\ntx A ins t 1 18446744073709551616\n",
-        ),
-        (
-            "a name of 33 bytes",
-            b"table abcdefghijklmnopqrstuvwxyz0123456 num\n",
-        ),
-        ("a capital in a name", b"table tT num\n"),
-        ("a name that begins with a digit", b"table 1t num\n"),
-        ("a column of text", b"table t text:3\n"),
-        ("a second table", b"table t num\ntable u num\n"),
-        (
-            "a transaction before the table",
-            b"tx A ins t 1 1\ntable t num\n",
-        ),
-        (
-            "two operations",
-            b"table t num\ntx A ins t 1 1 ; ins t 2 2\n",
-        ),
-        ("a word too many", b"table t num\ntx A ins t 1 1 1\n"),
-        ("another table", b"table t num\ntx A ins u 1 1\n"),
-        ("the other site", b"table t num\nepoch B\n"),
-        ("no number", b"table t num\ntx A ins t 1 -1\n"),
-    ];
-    for (what, script) in cases {
+    for (what, script) in REFUSED {
         assert_eq!(rt; parse(rt.alloc(), script).err(), BAD, "at {what}");
     }
 }

@@ -1,5 +1,5 @@
 -- What the program's call says, from what its parts say.
-use Rattle.std.proofs.Common.{◌≡◌, ◌≤◌, ◌<◌, ℕ, Bool, true, false, List, [], length, ◌++◌, refl, sym, ap, subst, ◌∙◌, arith, inl, inr}
+use Rattle.std.proofs.Common.{◌≡◌, ◌≤◌, ◌<◌, ℕ, Bool, true, false, List, [], length, ◌++◌, refl, sym, ap, subst, ◌∙◌, ◌⊎◌, arith, inl, inr}
 use Rattle.std.specs.Prelude.{◌∷◌, Option, Some, None, IsSome, IfSome, is_some, nat_le, if◌then◌else◌, count_by, map, ◌&&◌, ◌+◌}
 use Rattle.std.specs.Option.{option_and_then}
 use Rattle.std.specs.Io.KnownBytes.{Consumes, Appends, Keeps, IsAtEnd}
@@ -101,18 +101,18 @@ nothing_printed : (held : Option (List ℕ)) (report : List ℕ) → GrowsByPref
 nothing_printed held report = (0, omega arith, appends_nothing held)
 
 -- a run that stopped, by what it left of the log
-pub stopped : (left_old left_new held_old held_new : Option (List ℕ)) (file : List ℕ) (script : Script) (status : Status) (fault : SiteFault) → IsReadFrom left_old script → IsAtEnd left_new → GrowsByPrefix held_old held_new (report_of script) → (status ≡ statuses.NoMemory → fault ≡ faults.NoMemory) → (IsDiskFault status → Keeps held_old held_new) → (status ≡ statuses.WriteFault → IsLogOfScript script file) → LeavesPart (log_of script) file fault → HasStopped left_old left_new held_old held_new file status
-stopped left_old left_new held_old held_new file script status fault read end report tears silent whole (inl (torn, torn_by, part)) =
-    record { script = script; read = read; end = end; report = report; torn = torn; log = inl part; tears = λ same. torn_by (tears same); silent = silent; whole = whole }
-stopped left_old left_new held_old held_new file script status fault read end report tears silent whole (inr (torn, torn_by, part)) =
-    record { script = script; read = read; end = end; report = report; torn = torn; log = inr part; tears = λ same. torn_by (tears same); silent = silent; whole = whole }
+pub stopped : (left_old left_new held_old held_new : Option (List ℕ)) (file : List ℕ) (script : Script) (status : Status) (fault : SiteFault) → IsReadFrom left_old script → IsAtEnd left_new → GrowsByPrefix held_old held_new (report_of script) → (status ≡ statuses.NoMemory → fault ≡ faults.NoMemory) → (IsDiskFault status → Keeps held_old held_new) → (status ≡ statuses.WriteFault → IsLogOfScript script file) → (Keeps held_old held_new ⊎ IsLogOfScript script file) → LeavesPart (log_of script) file fault → HasStopped left_old left_new held_old held_new file status
+stopped left_old left_new held_old held_new file script status fault read end report tears silent whole printed (inl (torn, torn_by, part)) =
+    record { script = script; read = read; end = end; report = report; torn = torn; log = inl part; tears = λ same. torn_by (tears same); silent = silent; printed = printed; whole = whole }
+stopped left_old left_new held_old held_new file script status fault read end report tears silent whole printed (inr (torn, torn_by, part)) =
+    record { script = script; read = read; end = end; report = report; torn = torn; log = inr part; tears = λ same. torn_by (tears same); silent = silent; printed = printed; whole = whole }
 
 -- by a fault of the device, or want of memory within the run: nothing was printed
 pub stopped_running : (left_old left_new held : Option (List ℕ)) (file : List ℕ) (script : Script) (fault : SiteFault) (status : Status) → (status ≡ statuses.NoMemory → fault ≡ faults.NoMemory) → (status ≡ statuses.WriteFault → ⊥) → IsReadFrom left_old script → IsAtEnd left_new → LeavesPart (log_of script) file fault → HasStopped left_old left_new held held file status
 stopped_running left_old left_new held file script fault status tears not_printing read end left =
-    stopped left_old left_new held held file script status fault read end (nothing_printed held (report_of script)) tears (λ _. keeps_self held) (λ same. absurd (not_printing same)) left
+    stopped left_old left_new held held file script status fault read end (nothing_printed held (report_of script)) tears (λ _. keeps_self held) (λ same. absurd (not_printing same)) (inl (keeps_self held)) left
 
 -- within the printing: the log is whole
 pub stopped_printing : (left_old left_new held_old held_new : Option (List ℕ)) (file : List ℕ) (script : Script) (status : Status) → (IsDiskFault status → ⊥) → IsReadFrom left_old script → IsAtEnd left_new → GrowsByPrefix held_old held_new (report_of script) → IsLogOfScript script file → HasStopped left_old left_new held_old held_new file status
 stopped_printing left_old left_new held_old held_new file script status not_disk read end report log =
-    stopped left_old left_new held_old held_new file script status faults.NoMemory read end report (λ _. refl) (λ disk. absurd (not_disk disk)) (λ _. log) (whole_log script file faults.NoMemory log)
+    stopped left_old left_new held_old held_new file script status faults.NoMemory read end report (λ _. refl) (λ disk. absurd (not_disk disk)) (λ _. log) (inr log) (whole_log script file faults.NoMemory log)

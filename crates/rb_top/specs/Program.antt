@@ -58,7 +58,7 @@ pub record HasRun (left_old left_new held_old held_new : Option (List ℕ)) (fil
 
 -- the run of a script was begun, and stopped with this status: the script was read to its end, the sink has a front of the
 -- report, the file holds a part of the log; torn bytes stand behind it only after a fault of the device, which comes before
--- anything is printed; at a fault of the sink the log is whole
+-- anything is printed; nothing is printed before the log is whole; at a fault of the sink the log is whole
 pub record HasStopped (left_old left_new held_old held_new : Option (List ℕ)) (file : List ℕ) (status : Status) : Type 0 where
   pub script : Script
   pub read : IsReadFrom left_old script
@@ -68,9 +68,10 @@ pub record HasStopped (left_old left_new held_old held_new : Option (List ℕ)) 
   pub log : IsUnbegun torn file ⊎ HoldsPart 0 (log_of script) torn file
   pub tears : status ≡ statuses.NoMemory → torn ≡ []
   pub silent : IsDiskFault status → Keeps held_old held_new
+  pub printed : Keeps held_old held_new ⊎ IsLogOfScript script file
   pub whole : status ≡ statuses.WriteFault → IsLogOfScript script file
 
--- nothing was done
+-- the sink and the files of site A's device are as they were; the source may have been read
 pub record IsUntouched (held_old held_new : Option (List ℕ)) (files_old files_new : ℕ → List ℕ) : Type 0 where
   pub report : Keeps held_old held_new
   pub files : (file : ℕ) → files_new file ≡ files_old file

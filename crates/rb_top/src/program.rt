@@ -9,13 +9,10 @@ use crate::words::are_run_words;
 use rb_base::{Bytes, OutFault, SiteId};
 use rb_disk::LogDisk;
 use rb_io::{ReadAllFault, Sink, Source, read_all, write_all};
-use rb_script::{ParseFault, ScriptKind, parse};
+use rb_script::{MOST_SCRIPT_BYTES, ParseFault, ScriptKind, parse};
 use rb_site::SiteFault;
 use std::alloc::Global;
 use std::thread::Threads;
-
-/// The greatest script, in bytes.
-const MOST_SCRIPT_BYTES: u64 = 33554432;
 
 /// Runs the program. The one word `run` reads the script from the source, runs it over site A, whose log goes to file 1
 /// of its device, and writes the report to the sink. Both devices are empty at the start. Only the source's bytes, the

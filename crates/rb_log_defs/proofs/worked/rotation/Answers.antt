@@ -20,3 +20,15 @@ returns-clause-second c = refl
 pub returns-clause-places : goal.returns-clause-places
 unfolding file_start event_bytes header_bytes format_payload query_payload xid_payload rotate_payload table_map_payload text_bytes row_image rows_payload change_payload status_payload epoch_bytes length_bytes binlog_of index_record index_file digits
 returns-clause-places c = refl
+
+pub returns-clause-exactly : goal.returns-clause-exactly
+unfolding file_start event_bytes header_bytes format_payload query_payload xid_payload rotate_payload table_map_payload text_bytes row_image rows_payload change_payload status_payload epoch_bytes length_bytes binlog_of index_record index_file digits
+returns-clause-exactly c = refl
+
+pub returns-clause-below : goal.returns-clause-below
+unfolding file_start event_bytes header_bytes format_payload query_payload xid_payload rotate_payload table_map_payload text_bytes row_image rows_payload change_payload status_payload epoch_bytes length_bytes binlog_of index_record index_file digits
+returns-clause-below c = refl
+
+pub returns-clause-gcis : goal.returns-clause-gcis
+unfolding file_start event_bytes header_bytes format_payload query_payload xid_payload rotate_payload table_map_payload text_bytes row_image rows_payload change_payload status_payload epoch_bytes length_bytes binlog_of index_record index_file digits
+returns-clause-gcis c = refl
