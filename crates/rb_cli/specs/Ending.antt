@@ -29,10 +29,14 @@ kind_of Syntax = codes "syntax"
 abbrev pub bad_script_line : (line : ℕ) → ScriptKind → List ℕ
 bad_script_line line kind = line_of (codes "bad script: line " ++ (decimal line ++ (codes " " ++ kind_of kind)))
 
+-- the line on words outside the grammar: all words of the program
+unfoldable pub usage_line : List ℕ
+usage_line = line_of (codes "usage: run [--brief] | read | make SEED COUNT | live")
+
 -- the line that tells a status, and nothing where nothing failed
 abbrev pub fault_line_of : Status → List ℕ
 fault_line_of statuses.Done = []
-fault_line_of statuses.Usage = line_of (codes "usage: run [--brief] | read | make SEED COUNT | live")
+fault_line_of statuses.Usage = usage_line
 fault_line_of (statuses.BadScript line kind) = bad_script_line line kind
 fault_line_of statuses.ReadFault = line_of (codes "read fault")
 fault_line_of statuses.WriteFault = line_of (codes "write fault")

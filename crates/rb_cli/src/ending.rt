@@ -2,7 +2,7 @@ ghost use Rattle.std.specs.Prelude.{◌≡◌, IfOk, IsErrOf, OnOk, OnErr};
 ghost use Rattle.std.specs.Io.KnownBytes.{Appends};
 ghost use Rattle.rb_base.specs.Faults.{Rose};
 ghost use Rattle.rb_io.specs.Prefix.{GrowsByPrefix};
-ghost use Rattle.rb_cli.specs.Ending.{exit_number_of, fault_line_of, bad_script_line};
+ghost use Rattle.rb_cli.specs.Ending.{exit_number_of, fault_line_of, usage_line, bad_script_line};
 
 use rb_base::{Bytes, NoMemory, OutFault, SiteId};
 use rb_io::{Sink, write_all};
@@ -34,10 +34,7 @@ pub fn tell<O: Sink>(alloc: Global, out: &mut O, status: Status) -> Result<(), O
 {
     match status {
         Status::Done => write_all(out, b"")?,
-        Status::Usage => write_all(
-            out,
-            b"usage: run [--brief] | read | make SEED COUNT | live\n",
-        )?,
+        Status::Usage => tell_usage(out)?,
         Status::BadScript { line, kind } => {
             let text = bad_script_line(alloc, line, kind)?;
             write_all(out, text.as_slice())?;
@@ -48,6 +45,20 @@ pub fn tell<O: Sink>(alloc: Global, out: &mut O, status: Status) -> Result<(), O
         Status::DiskFault { site: SiteId::B } => write_all(out, b"disk fault B\n")?,
         Status::NoMemory => write_all(out, b"no memory\n")?,
     }
+    Ok(())
+}
+
+// Writes the line on words outside the grammar.
+#[tactic(auto, unfolding(crate::specs::Ending::usage_line))]
+fn tell_usage<O: Sink>(out: &mut O) -> Result<(), OutFault>
+    ensures whole { OnOk result (Appends (O.held out.old) (O.held out.new) usage_line) }
+    ensures part { OnErr result (GrowsByPrefix (O.held out.old) (O.held out.new) usage_line) }
+    ensures failed { IsErrOf result OutFault.Failed → Rose (O.fault_count out.old) (O.fault_count out.new) }
+{
+    write_all(
+        out,
+        b"usage: run [--brief] | read | make SEED COUNT | live\n",
+    )?;
     Ok(())
 }
 

@@ -1,5 +1,5 @@
 use crate::arguments::arguments;
-use crate::ending::tell;
+use crate::ending::{exit_number, tell};
 use rb_base::{Bytes, Numbers, OutFault, SiteId};
 use rb_io::{MemorySink, SteadySink};
 use rb_script::ScriptKind;
