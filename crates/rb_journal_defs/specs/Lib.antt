@@ -1,2 +1,5 @@
 pub mod Journal
 pub mod Body
+pub mod Transaction
+pub mod Table
+pub mod Clock
