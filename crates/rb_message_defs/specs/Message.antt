@@ -1,0 +1,65 @@
+-- The messages of a bucket in an epoch, and what data nodes send at a commit and at a close. The buckets and their messages are
+-- this project's own.
+use Rattle.std.specs.Prelude.{ℕ, ◌==◌, Bool, if◌then◌else◌, List, [], ◌∷◌, ◌++◌, length, map, take, Contains}
+use Rattle.std.specs.List.{enumerate_from, list_any}
+use Rattle.rb_base.specs.Bucket.{bucket_number}
+use Rattle.rb_base.specs.declared.epoch.Epoch.{Epoch}
+use Rattle.rb_base.specs.declared.change.Change.{Change}
+use Rattle.rb_base.specs.declared.message.Message.{Message}
+use Rattle.rb_base.specs.declared.message.Message.TheVariants.{Part, Done}
+use Rattle.rb_base.specs.declared.message.Sent.{Sent}
+use Rattle.rb_journal_defs.specs.Journal.{Journal, closed_epochs, previous_closed}
+use Rattle.rb_journal_defs.specs.Body.{Shape, in_bucket, part_of, numbers_below}
+
+-- the bucket of a message
+abbrev pub bucket_in : Message → ℕ
+bucket_in (Part bucket epoch place change) = bucket
+bucket_in (Done bucket epoch prev count) = bucket
+
+-- its epoch
+abbrev pub epoch_in : Message → ℕ
+epoch_in (Part bucket epoch place change) = epoch.0
+epoch_in (Done bucket epoch prev count) = epoch.0
+
+-- the end of a bucket's epoch
+abbrev pub done_message : Shape → (epoch bucket : ℕ) → Journal → Message
+done_message shape epoch bucket journal =
+    Done bucket (record { 0 = epoch }) (record { 0 = previous_closed epoch journal }) (length (part_of shape epoch bucket journal))
+
+-- an epoch is closed
+abbrev pub is_closed : (epoch : ℕ) → Journal → Bool
+is_closed epoch journal = list_any (λ closed. closed == epoch) (closed_epochs journal)
+
+-- the messages of a bucket in an epoch: each change of its part with its place, from 0, and behind them, where the epoch is
+-- closed, its Done
+unfoldable pub messages_of : Shape → (epoch bucket : ℕ) → Journal → List Message
+messages_of shape epoch bucket journal =
+    map (λ placed. Part bucket (record { 0 = epoch }) placed.0 placed.1) (enumerate_from 0 (part_of shape epoch bucket journal))
+    ++ (if is_closed epoch journal then done_message shape epoch bucket journal ∷ [] else [])
+
+-- a message of a journal
+abbrev pub IsMessageOf : Shape → Journal → Message → Type 0
+IsMessageOf shape journal message = Contains (messages_of shape (epoch_in message) (bucket_in message) journal) message
+
+-- the message of a change behind these earlier ones of its epoch
+abbrev pub part_message : (buckets epoch : ℕ) → (earlier : List Change) → Change → Message
+part_message buckets epoch earlier change =
+    let bucket = bucket_number change.table change.key buckets in
+    Part bucket (record { 0 = epoch }) (length (in_bucket buckets bucket earlier)) change
+
+-- what a commit of these changes sends, behind the earlier ones of its epoch: a message for each, in their order
+unfoldable pub parts_sent : (buckets epoch : ℕ) → (earlier : List Change) → List Change → List Message
+parts_sent buckets epoch earlier changes =
+    map (λ numbered. part_message buckets epoch (earlier ++ take numbered.0 changes) numbered.1) (enumerate_from 0 changes)
+
+-- what the close of an epoch sends: the Done of each bucket, bucket 0 first
+unfoldable pub dones_sent : Shape → (epoch : ℕ) → Journal → List Message
+dones_sent shape epoch journal = map (λ bucket. done_message shape epoch bucket journal) (numbers_below shape.buckets)
+
+-- the home node of a bucket has its number
+abbrev pub home_node : (bucket : ℕ) → ℕ
+home_node bucket = bucket
+
+-- a message as the owner of its bucket sends it
+abbrev pub sent_by : (owner : ℕ → ℕ) → Message → Sent
+sent_by owner message = record { sender = owner (bucket_in message); message = message }
