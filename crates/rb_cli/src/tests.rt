@@ -63,7 +63,7 @@ fn arguments_are_words(rt: HostRuntime) -> Result<(), Fail> {
 #[test]
 fn statuses_end_so(rt: HostRuntime) -> Result<(), Fail> {
     let kind = ScriptKind::Syntax;
-    let cases: [(Status, u8, &[u8]); 8] = [
+    let cases: [(Status, u8, &[u8]); 9] = [
         (Status::Done, 0, b""),
         (
             Status::Usage,
@@ -75,6 +75,11 @@ fn statuses_end_so(rt: HostRuntime) -> Result<(), Fail> {
             3,
             b"bad script: line 0 syntax\n",
         ),
+        (
+            Status::BadScript { line: 12, kind },
+            3,
+            b"bad script: line 12 syntax\n",
+        ),
         (Status::ReadFault, 4, b"read fault\n"),
         (Status::WriteFault, 5, b"write fault\n"),
         (Status::DiskFault { site: SiteId::A }, 6, b"disk fault A\n"),
@@ -84,8 +89,8 @@ fn statuses_end_so(rt: HostRuntime) -> Result<(), Fail> {
     for (status, number, line) in cases {
         let mut out = SteadySink::new(rt.alloc());
         tell(rt.alloc(), &mut out, status)?;
-        assert_eq!(rt; exit_number(status), number, "at {number}");
-        assert_eq!(rt; out.bytes(), line, "at {number}");
+        assert_eq!(rt; exit_number(status), number, "at {status:?}");
+        assert_eq!(rt; out.bytes(), line, "at {status:?}");
     }
     Ok(())
 }

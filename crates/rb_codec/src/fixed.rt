@@ -1,5 +1,5 @@
 ghost use Rattle.std.specs.Prelude.{◌≡◌, ◌+◌, ◌^◌, ◌<◌, ◌++◌, length, IfOk, OnOk, OnErr};
-ghost use Rattle.rb_log_defs.specs.Event.{format_event, format_payload, query_event, query_payload, xid_event, xid_payload};
+ghost use Rattle.rb_log_defs.specs.Event.{format_event, format_payload, query_event, query_payload, rotate_event, rotate_payload, xid_event, xid_payload};
 
 use crate::event::write_event;
 use byteorder::{ByteOrder, LittleEndian};
@@ -8,6 +8,9 @@ use std::alloc::Global;
 
 /// The type code of a QUERY event.
 const QUERY_EVENT: u8 = 2;
+
+/// The type code of a ROTATE event.
+const ROTATE_EVENT: u8 = 4;
 
 /// The type code of a FORMAT_DESCRIPTION event.
 const FORMAT_DESCRIPTION_EVENT: u8 = 15;
@@ -87,6 +90,39 @@ fn query_payload(alloc: Global, text: &[u8]) -> Result<Vec<u8>, NoMemory>
 {
     let mut payload = Vec::from_slice(alloc, &[0u8; 14])?;
     payload.extend_from_slice(text)?;
+    Ok(payload)
+}
+
+/// Appends the rotate event, with which a full file of the log ends: 27 bytes and the name, of the server `server`,
+/// starting at `start`. The log goes on in the file `name`, at `position` there. Without memory the output stays as
+/// it was.
+#[tactic(auto, using(rb_log_defs::proofs::Sizes::rotate_payload_length))]
+pub fn write_rotate(
+    alloc: Global,
+    out: &mut Vec<u8>,
+    server: u32,
+    start: u32,
+    position: u64,
+    name: &[u8],
+) -> Result<(), NoMemory>
+    requires { start + (27 + length name.now) < 2 ^ 32 }
+    ensures ok { OnOk result (out.new.items ≡ out.old.items ++ rotate_event server position name.now start) }
+    ensures size { OnOk result (length out.new.items ≡ length out.old.items + (27 + length name.now)) }
+    ensures err { OnErr result (out.new.items ≡ out.old.items) }
+{
+    let payload = rotate_payload(alloc, position, name)?;
+    write_event(alloc, out, ROTATE_EVENT, server, start, &payload)?;
+    Ok(())
+}
+
+#[tactic(auto, unfolding(rb_log_defs::specs::Event::rotate_payload))]
+fn rotate_payload(alloc: Global, position: u64, name: &[u8]) -> Result<Vec<u8>, NoMemory>
+    ensures { IfOk result (λ payload. payload.items ≡ rotate_payload position name.now) }
+{
+    let mut number = [0u8; 8];
+    LittleEndian::write_u64(&mut number, position);
+    let mut payload = Vec::from_slice(alloc, &number)?;
+    payload.extend_from_slice(name)?;
     Ok(payload)
 }
 

@@ -38,6 +38,12 @@ const XID: [u8; 27] = [
     0, 0, 0, 0, 0x10, 1, 0, 0, 0, 0x1b, 0, 0, 0, 0xc8, 0, 0, 0, 0, 0, 7, 0, 0, 0, 0, 0, 0, 0,
 ];
 
+/// Of server 1 at 683, to the start of the file a-bin.000002.
+const ROTATE: [u8; 39] = [
+    0, 0, 0, 0, 4, 1, 0, 0, 0, 0x27, 0, 0, 0, 0xd2, 2, 0, 0, 0, 0, 4, 0, 0, 0, 0, 0, 0, 0, 0x61,
+    0x2d, 0x62, 0x69, 0x6e, 0x2e, 0x30, 0x30, 0x30, 0x30, 0x30, 0x32,
+];
+
 /// The header of an event of type 16 that ends at 200, with flags.
 const HEADER: [u8; 19] = [
     0, 0, 0, 0, 0x10, 1, 0, 0, 0, 0x1b, 0, 0, 0, 0xc8, 0, 0, 0, 2, 1,
@@ -66,6 +72,9 @@ fn fixed_events(rt: HostRuntime) -> Result<(), Fail> {
     let mut out = Vec::new(rt.alloc());
     write_query(rt.alloc(), &mut out, 1, 115, b"BEGIN")?;
     assert_eq!(rt; out.as_slice(), BEGIN.as_slice());
+    let mut out = Vec::new(rt.alloc());
+    write_rotate(rt.alloc(), &mut out, 1, 683, 4, b"a-bin.000002")?;
+    assert_eq!(rt; out.as_slice(), ROTATE.as_slice());
     let mut out = Vec::new(rt.alloc());
     write_xid(rt.alloc(), &mut out, 1, 173, 7)?;
     assert_eq!(rt; out.as_slice(), XID.as_slice());

@@ -13,7 +13,7 @@ use Rattle.rb_base.specs.declared.schema.Column.TheVariants.{Num, Long, Text}
 use Rattle.rb_base.specs.declared.schema.Mapped.{Mapped}
 use Rattle.rb_log_defs.specs.Table.{all_metadata, bitmap_size, table_map_payload, table_map_event, columns_of, status_table}
 use Rattle.rb_log_defs.specs.Fits.{CanBeMapped}
-use Rattle.rb_log_defs.specs.Event.{Placed, header_bytes, event_bytes, query_payload, query_event, format_payload, format_event, xid_payload, xid_event}
+use Rattle.rb_log_defs.specs.Event.{Placed, header_bytes, event_bytes, query_payload, query_event, rotate_payload, rotate_event, format_payload, format_event, xid_payload, xid_event}
 
 pub header_length : (kind server size end flags : ℕ) → length (header_bytes kind server size end flags) ≡ 19
 unfolding header_bytes
@@ -31,6 +31,13 @@ query_payload_length text = grind arith
 
 pub query_length : (server : ℕ) (text : List ℕ) (start : ℕ) → length (query_event server text start) ≡ 33 + length text
 query_length server text start = omega (arith, event_length 2 server (query_payload text) start, query_payload_length text)
+
+pub rotate_payload_length : (position : ℕ) (name : List ℕ) → length (rotate_payload position name) ≡ 8 + length name
+unfolding rotate_payload
+rotate_payload_length position name = grind arith
+
+pub rotate_length : (server position : ℕ) (name : List ℕ) (start : ℕ) → length (rotate_event server position name start) ≡ 27 + length name
+rotate_length server position name start = omega (arith, event_length 4 server (rotate_payload position name) start, rotate_payload_length position name)
 
 pub format_payload_length : length format_payload ≡ 92
 unfolding format_payload

@@ -23,6 +23,7 @@ pub fn the_first_path()
 /// Two epochs with empty ones between them: where they stand, and where the log goes on after them and before them.
 pub fn empty_epochs()
     ensures places { places_of (index_rows A 1048576 around_empty_epochs) ≡ (1, 115, 399) ∷ (1, 399, 683) ∷ [] }
+    ensures gcis { map (λ row. row.gci) (index_rows A 1048576 around_empty_epochs) ≡ 1 ∷ 2 ∷ [] }
     ensures between { position_after (index_rows A 1048576 around_empty_epochs) 4294967298 ≡ (1, 399) }
     ensures before { position_after (index_rows A 1048576 around_empty_epochs) 0 ≡ (1, 4) }
 {}
@@ -33,7 +34,6 @@ pub fn rotation()
     ensures files { behind 683 (binlog_files A 512 around_empty_epochs) ≡ rotate_bytes ∷ [] ∷ [] }
     ensures exactly { behind 683 (binlog_files A 683 around_empty_epochs) ≡ rotate_bytes ∷ [] ∷ [] }
     ensures below { behind 683 (binlog_files A 684 around_empty_epochs) ≡ [] ∷ [] }
-    ensures gcis { map (λ row. row.gci) (index_rows A 512 around_empty_epochs) ≡ 1 ∷ 2 ∷ [] }
     ensures second { behind 0 (drop 1 (binlog_files A 512 around_empty_epochs)) ≡ start_bytes ∷ [] }
     ensures places { places_of (index_rows A 512 around_empty_epochs) ≡ (1, 115, 399) ∷ (1, 399, 683) ∷ [] }
 {}

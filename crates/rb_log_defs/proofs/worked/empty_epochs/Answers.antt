@@ -12,6 +12,10 @@ pub returns-clause-places : goal.returns-clause-places
 unfolding file_start event_bytes header_bytes format_payload query_payload xid_payload rotate_payload table_map_payload text_bytes row_image rows_payload change_payload status_payload epoch_bytes length_bytes binlog_of index_record index_file
 returns-clause-places c = refl
 
+pub returns-clause-gcis : goal.returns-clause-gcis
+unfolding file_start event_bytes header_bytes format_payload query_payload xid_payload rotate_payload table_map_payload text_bytes row_image rows_payload change_payload status_payload epoch_bytes length_bytes binlog_of index_record index_file
+returns-clause-gcis c = refl
+
 pub returns-clause-between : goal.returns-clause-between
 unfolding file_start event_bytes header_bytes format_payload query_payload xid_payload rotate_payload table_map_payload text_bytes row_image rows_payload change_payload status_payload epoch_bytes length_bytes binlog_of index_record index_file
 returns-clause-between c = refl

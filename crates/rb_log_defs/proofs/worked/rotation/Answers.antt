@@ -28,7 +28,3 @@ returns-clause-exactly c = refl
 pub returns-clause-below : goal.returns-clause-below
 unfolding file_start event_bytes header_bytes format_payload query_payload xid_payload rotate_payload table_map_payload text_bytes row_image rows_payload change_payload status_payload epoch_bytes length_bytes binlog_of index_record index_file digits
 returns-clause-below c = refl
-
-pub returns-clause-gcis : goal.returns-clause-gcis
-unfolding file_start event_bytes header_bytes format_payload query_payload xid_payload rotate_payload table_map_payload text_bytes row_image rows_payload change_payload status_payload epoch_bytes length_bytes binlog_of index_record index_file digits
-returns-clause-gcis c = refl
