@@ -1,0 +1,62 @@
+ghost use Rattle.std.specs.Prelude.{◌≡◌, ◌∷◌, IfOk};
+ghost use Rattle.rb_log_defs.specs.Index.{index_record, index_file, position_after};
+
+use byteorder::{ByteOrder, LittleEndian};
+use rb_base::{Bytes, Epoch, IndexRow, NoMemory};
+use std::alloc::Global;
+
+/// The gate before a record of file 0.
+const OPEN_GATE: u8 = 1;
+
+/// The gate at the end of file 0.
+const CLOSED_GATE: u8 = 0;
+
+/// File 0 of a log with these index rows: each row's record of 64 bytes behind an open gate, and a closed gate. It fails
+/// only for want of memory.
+#[tactic(auto, unfolding(rb_log_defs::specs::Index::index_file))]
+pub fn index_file(alloc: Global, rows: &[IndexRow]) -> Result<Bytes, NoMemory>
+    ensures { IfOk result (λ file. file ≡ index_file rows.now) }
+{
+    let mut file = Vec::new(alloc);
+    for row in rows {
+        file.extend_from_slice(&gated_record(row))?;
+    }
+    file.push(CLOSED_GATE)?;
+    Ok(Bytes::from_vec(file))
+}
+
+/// The record of a row behind an open gate.
+#[tactic(auto, unfolding(rb_log_defs::specs::Index::index_record))]
+fn gated_record(row: &IndexRow) -> [u8; 65]
+    ensures { result ≡ 1 ∷ index_record row.now }
+{
+    let mut bytes = [OPEN_GATE; 65];
+    LittleEndian::write_u64(&mut bytes[1..], row.epoch.0);
+    LittleEndian::write_u64(&mut bytes[9..], row.orig_epoch.0);
+    LittleEndian::write_u64(&mut bytes[17..], row.position);
+    LittleEndian::write_u64(&mut bytes[25..], row.next_position);
+    LittleEndian::write_u32(&mut bytes[33..], row.file);
+    LittleEndian::write_u32(&mut bytes[37..], row.next_file);
+    LittleEndian::write_u32(&mut bytes[41..], row.inserts);
+    LittleEndian::write_u32(&mut bytes[45..], row.updates);
+    LittleEndian::write_u32(&mut bytes[49..], row.deletes);
+    LittleEndian::write_u32(&mut bytes[53..], row.schemaops);
+    LittleEndian::write_u32(&mut bytes[57..], row.orig_server_id);
+    LittleEndian::write_u32(&mut bytes[61..], row.gci);
+    bytes
+}
+
+/// Where the log goes on after an epoch, by its index rows, the oldest first: a file and a position in it, in bytes from
+/// its start. Without a row of that epoch or an earlier one, this is the first event of file 1.
+#[tactic(auto, using(crate::proofs::Rows::place_moves, crate::proofs::Rows::place_stays))]
+pub fn position_after(rows: &[IndexRow], epoch: Epoch) -> (u32, u64)
+    ensures { result ≡ position_after rows.now epoch.0 }
+{
+    let mut place = (1, 4);
+    for row in rows {
+        if row.epoch.0 <= epoch.0 {
+            place = (row.next_file, row.next_position);
+        }
+    }
+    place
+}
