@@ -2,14 +2,12 @@
 use Rattle.std.proofs.Common.{◌≡◌, ◌≤◌, ◌<◌, ◌^◌, ℕ, ◌+◌, List, [], ◌∷◌, ◌++◌, length, take, drop, get_or, refl, sym, ap, subst, ◌∙◌, arith, length-append, length-take, add-one}
 use Rattle.std.specs.Prelude.{All, Bool, true, false, Some, nat_le, if◌then◌else◌, fold}
 use Rattle.std.proofs.lemmas.List.{take-append-drop}
-use Rattle.std.proofs.lemmas.Bool.{le-leb, lt-leb}
 use Rattle.std.proofs.Math.Seq.{drop-cons}
 use Rattle.std.proofs.lemmas.List.Sums.{fold_more, fold-append}
 use Rattle.std.proofs.lemmas.List.Elements.{All-pop, All-get_or}
 use Rattle.rb_base.specs.Site.{server_of}
 use Rattle.rb_base.specs.declared.site.SiteId.{SiteId}
 use Rattle.rb_base.specs.declared.body.EpochBody.{EpochBody}
-use Rattle.rb_base.specs.declared.body.IndexRow.{IndexRow}
 use Rattle.rb_log_defs.specs.Event.{rotate_event}
 use Rattle.rb_log_defs.specs.Epoch.{epoch_bytes}
 use Rattle.rb_log_defs.specs.Fits.{CanBeWritten}
@@ -41,10 +39,6 @@ before_if true site log small =
     let fits : length file < 2 ^ 32 = parts.1 in
     record { closed = parts.0; last = omega (arith, rotated_length site (length log.closed + 1) log.last) }
 before_if false site log small = small
-
--- a file that has come to the limit is rotated
-pub rotated_file : (site : SiteId) (limit : ℕ) (log : Binlog) → limit ≤ length log.last → rotated_at site limit log ≡ record log { closed = log.closed ++ rotated site (length log.closed + 1) log.last ∷ []; last = file_start site }
-rotated_file site limit log full = rw (le-leb limit (length log.last) full) refl
 
 -- where the binlog is small after the rotation, it was before
 pub small_before_rotation : (site : SiteId) (limit : ℕ) (log : Binlog) → AreSmall (rotated_at site limit log) → AreSmall log

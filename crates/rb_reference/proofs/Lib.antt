@@ -1,3 +1,4 @@
 pub mod Growing
 pub mod Room
 pub mod Rows
+pub mod Examples

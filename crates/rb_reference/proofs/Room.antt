@@ -1,7 +1,6 @@
 -- What a writer may count on, where the binlog is small after it.
-use Rattle.std.proofs.Common.{◌≡◌, ◌≤◌, ◌<◌, ◌^◌, ℕ, ◌+◌, List, [], ◌∷◌, ◌++◌, length, refl, subst, arith, length-append}
-use Rattle.std.specs.Prelude.{map, Some, nat_le, true, codes}
-use Rattle.std.proofs.lemmas.List.Elements.{All-pop}
+use Rattle.std.proofs.Common.{◌≤◌, ◌<◌, ◌^◌, ℕ, ◌+◌, List, [], ◌∷◌, ◌++◌, length, arith, length-append}
+use Rattle.std.specs.Prelude.{map, codes}
 use Rattle.rb_base.specs.declared.site.SiteId.{SiteId}
 use Rattle.rb_base.specs.declared.schema.Mapped.{Mapped}
 use Rattle.rb_base.specs.declared.change.Change.{Change}
@@ -10,19 +9,11 @@ use Rattle.rb_log_defs.specs.Event.{Placed, event_bytes, query_event, xid_event}
 use Rattle.rb_log_defs.specs.Table.{columns_of, status_table, table_map_event}
 use Rattle.rb_log_defs.specs.Rows.{rows_type, change_payload, end_flag, status_event}
 use Rattle.rb_log_defs.specs.Epoch.{joined_from, change_events, epoch_bytes}
-use Rattle.rb_log_defs.specs.File.{file_name, file_start, rotated, Binlog, rotated_at, with_epoch}
+use Rattle.rb_log_defs.specs.File.{Binlog, with_epoch}
 use Rattle.rb_log_defs.proofs.Joined.{joined_append}
 use Rattle.rb_log_defs.proofs.Sizes.{event_length}
-use Rattle.rb_reference.specs.Standing.{IsSmall, AreSmall}
-use Rattle.rb_reference.proofs.Growing.{grown, rotated_length, rotated_file, small_before_rotation}
-
--- the rotate event of a file that is full ends within 32 bits
-pub rotation_fits : (site : SiteId) (limit : ℕ) (log : Binlog) → limit ≤ length log.last → AreSmall (rotated_at site limit log) → length log.last + (27 + length (file_name site (length log.closed + 1 + 1))) < 2 ^ 32
-rotation_fits site limit log full small =
-    let file : List ℕ = rotated site (length log.closed + 1) log.last in
-    let after : AreSmall (record log { closed = log.closed ++ file ∷ []; last = file_start site }) = subst AreSmall (rotated_file site limit log full) small in
-    let fits : length file < 2 ^ 32 = (All-pop IsSmall (log.closed ++ file ∷ []) log.closed (Some file) refl after.closed).1 in
-    omega (arith, rotated_length site (length log.closed + 1) log.last)
+use Rattle.rb_reference.specs.Standing.{AreSmall}
+use Rattle.rb_reference.proofs.Growing.{grown, small_before_rotation}
 
 -- an epoch ends within 32 bits
 pub epoch_fits : (site : SiteId) (limit : ℕ) (log : Binlog) (body : EpochBody) → AreSmall (with_epoch site limit log body) → length log.last + length (epoch_bytes body (length log.last)) < 2 ^ 32

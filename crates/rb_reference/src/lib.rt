@@ -12,3 +12,6 @@ mod row;
 
 pub use index::{index_file, position_after};
 pub use layout::{binlog_files, index_rows};
+
+#[cfg(test)]
+mod tests;

@@ -1,4 +1,4 @@
-use Rattle.std.proofs.Common.{◌≡◌, ◌+◌, ℕ, length, ap, ◌∙◌, arith}
+use Rattle.std.proofs.Common.{◌≡◌, ◌+◌, length, ap, ◌∙◌, arith}
 use Rattle.rb_log_defs.specs.File.{file_name}
 use Rattle.rb_reference.proofs.Growing.{rotated_length}
 use Rattle.rb_reference.proofs.layout.rotated.Goals as goal
