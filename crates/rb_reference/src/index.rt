@@ -11,6 +11,9 @@ const OPEN_GATE: u8 = 1;
 /// The gate at the end of file 0.
 const CLOSED_GATE: u8 = 0;
 
+/// The first event of file 1.
+const FIRST_PLACE: (u32, u64) = (1, 4);
+
 /// File 0 of a log with these index rows: each row's record of 64 bytes behind an open gate, and a closed gate. It fails
 /// only for want of memory.
 #[tactic(auto, unfolding(rb_log_defs::specs::Index::index_file))]
@@ -52,7 +55,7 @@ fn gated_record(row: &IndexRow) -> [u8; 65]
 pub fn position_after(rows: &[IndexRow], epoch: Epoch) -> (u32, u64)
     ensures { result ≡ position_after rows.now epoch.0 }
 {
-    let mut place = (1, 4);
+    let mut place = FIRST_PLACE;
     for row in rows {
         if row.epoch.0 <= epoch.0 {
             place = (row.next_file, row.next_position);

@@ -14,7 +14,7 @@ use std::alloc::Global;
 const MAGIC: [u8; 4] = [0xfe, b'b', b'i', b'n'];
 
 /// The position of a file's first event, in bytes from the file's start.
-const FIRST_EVENT: u64 = 4;
+const FIRST_EVENT: u32 = 4;
 
 /// A site's binlog: the files that are full, file 1 first, the last file, and the index rows.
 #[derive(Drop)]
@@ -98,7 +98,7 @@ fn file_start(alloc: Global, site: SiteId) -> Result<Vec<u8>, NoMemory>
     ensures { IfOk result (λ bytes. bytes.items ≡ file_start site) }
 {
     let mut bytes = Vec::from_slice(alloc, &MAGIC)?;
-    write_format(alloc, &mut bytes, site.server_id(), 4)?;
+    write_format(alloc, &mut bytes, site.server_id(), FIRST_EVENT)?;
     Ok(bytes)
 }
 
@@ -125,7 +125,7 @@ fn with_epoch(
     last.extend_from_slice(&bytes)?;
     let end = last.len() as u64;
     rows.push(index_row(site, closed.len() as u32 + 1, u64::from(start), end, body))?;
-    Ok(rotated_at(alloc, site, limit, Layout { closed, last, rows })?)
+    rotated_at(alloc, site, limit, Layout { closed, last, rows })
 }
 
 /// The binlog with its last file rotated and the next one begun, where that file has come to the limit.
@@ -152,14 +152,14 @@ fn rotated_at(alloc: Global, site: SiteId, limit: u64, log: Layout) -> Result<La
 }
 
 /// The file of this number with the rotate event at its end.
-fn rotated(alloc: Global, site: SiteId, number: u32, file: Vec<u8>) -> Result<Vec<u8>, NoMemory>
+fn rotated(alloc: Global, site: SiteId, number: u32, mut file: Vec<u8>) -> Result<Vec<u8>, NoMemory>
     requires small { length (rotated site number file.items) < 2 ^ 32 }
     requires few { number + 1 < 2 ^ 32 }
     ensures { IfOk result (λ full. full.items ≡ rotated site number file.items) }
 {
     let name = file_name(alloc, site, number + 1)?;
-    let mut full = file;
-    let end = full.len() as u32;
-    write_rotate(alloc, &mut full, site.server_id(), end, FIRST_EVENT, &name)?;
-    Ok(full)
+    let end = file.len() as u32;
+    let position = u64::from(FIRST_EVENT);
+    write_rotate(alloc, &mut file, site.server_id(), end, position, &name)?;
+    Ok(file)
 }

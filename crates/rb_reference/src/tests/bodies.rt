@@ -23,7 +23,7 @@ fn table(alloc: Global, id: u16, name: &[u8], columns: &[Column]) -> Result<Mapp
 fn text_table(alloc: Global, id: u16, name: &[u8], most: u16) -> Result<Mapped, NoMemory>
     ensures { IfOk result (λ table. table ≡ text_table id name.now most) }
 {
-    Ok(table(alloc, id, name, &[Column::Num, Column::Text(most)])?)
+    table(alloc, id, name, &[Column::Num, Column::Text(most)])
 }
 
 /// An insert of this row at site A.
