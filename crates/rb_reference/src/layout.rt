@@ -152,6 +152,7 @@ fn rotated_at(alloc: Global, site: SiteId, limit: u64, log: Layout) -> Result<La
 }
 
 /// The file of this number with the rotate event at its end.
+#[tactic(auto, using(crate::proofs::Growing::rotated_length))]
 fn rotated(alloc: Global, site: SiteId, number: u32, mut file: Vec<u8>) -> Result<Vec<u8>, NoMemory>
     requires small { length (rotated site number file.items) < 2 ^ 32 }
     requires few { number + 1 < 2 ^ 32 }
