@@ -3,3 +3,4 @@ pub mod Body
 pub mod Transaction
 pub mod Table
 pub mod Clock
+pub mod Order

@@ -1,6 +1,6 @@
 -- A client's transaction: why it is refused, and the changes that it makes where it is not. After the manual's chapter on NDB
 -- transactions: all of it is done or nothing.
-use Rattle.std.specs.Prelude.{ℕ, ◌==◌, ◌&&◌, Bool, true, false, if◌then◌else◌, List, [], ◌∷◌, map, filter_map, take, Option, Some, None, is_some}
+use Rattle.std.specs.Prelude.{ℕ, ◌==◌, ◌&&◌, Bool, if◌then◌else◌, List, [], ◌∷◌, map, filter_map, take, Option, Some, None}
 use Rattle.std.specs.List.{list_any, enumerate_from}
 use Rattle.rb_base.specs.declared.row.Row.{Row}
 use Rattle.rb_base.specs.declared.script.Op.{Op}

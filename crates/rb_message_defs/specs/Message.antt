@@ -1,14 +1,14 @@
--- The messages of a bucket in an epoch, and what data nodes send at a commit and at a close. The buckets and their messages are
--- this project's own.
-use Rattle.std.specs.Prelude.{ℕ, ◌==◌, Bool, if◌then◌else◌, List, [], ◌∷◌, ◌++◌, length, map, take, Contains}
-use Rattle.std.specs.List.{enumerate_from, list_any}
+-- The messages of a journal, and what data nodes send at a commit and at a close. The buckets and their messages are this
+-- project's own.
+use Rattle.std.specs.Prelude.{◌≡◌, ℕ, List, ◌++◌, length, map, take, Some}
+use Rattle.std.specs.List.{enumerate_from, slice_get}
 use Rattle.rb_base.specs.Bucket.{bucket_number}
-use Rattle.rb_base.specs.declared.epoch.Epoch.{Epoch}
 use Rattle.rb_base.specs.declared.change.Change.{Change}
 use Rattle.rb_base.specs.declared.message.Message.{Message}
 use Rattle.rb_base.specs.declared.message.Message.TheVariants.{Part, Done}
 use Rattle.rb_base.specs.declared.message.Sent.{Sent}
-use Rattle.rb_journal_defs.specs.Journal.{Journal, closed_epochs, previous_closed}
+use Rattle.rb_journal_defs.specs.Journal.{Journal, previous_closed}
+use Rattle.rb_journal_defs.specs.Order.{IsClosed}
 use Rattle.rb_journal_defs.specs.Body.{Shape, in_bucket, part_of, numbers_below}
 
 -- the bucket of a message
@@ -26,20 +26,11 @@ abbrev pub done_message : Shape → (epoch bucket : ℕ) → Journal → Message
 done_message shape epoch bucket journal =
     Done bucket (record { 0 = epoch }) (record { 0 = previous_closed epoch journal }) (length (part_of shape epoch bucket journal))
 
--- an epoch is closed
-abbrev pub is_closed : (epoch : ℕ) → Journal → Bool
-is_closed epoch journal = list_any (λ closed. closed == epoch) (closed_epochs journal)
-
--- the messages of a bucket in an epoch: each change of its part with its place, from 0, and behind them, where the epoch is
--- closed, its Done
-unfoldable pub messages_of : Shape → (epoch bucket : ℕ) → Journal → List Message
-messages_of shape epoch bucket journal =
-    map (λ placed. Part bucket (record { 0 = epoch }) placed.0 placed.1) (enumerate_from 0 (part_of shape epoch bucket journal))
-    ++ (if is_closed epoch journal then done_message shape epoch bucket journal ∷ [] else [])
-
--- a message of a journal
+-- a message of a journal: the change at its place in the part of its bucket, or the end of its bucket's epoch, which is closed
 abbrev pub IsMessageOf : Shape → Journal → Message → Type 0
-IsMessageOf shape journal message = Contains (messages_of shape (epoch_in message) (bucket_in message) journal) message
+IsMessageOf shape journal (Part bucket epoch place change) = slice_get (part_of shape epoch.0 bucket journal) place ≡ Some change
+IsMessageOf shape journal (Done bucket epoch prev count) =
+    IsClosed epoch.0 journal × (prev.0 ≡ previous_closed epoch.0 journal) × (count ≡ length (part_of shape epoch.0 bucket journal))
 
 -- the message of a change behind these earlier ones of its epoch
 abbrev pub part_message : (buckets epoch : ℕ) → (earlier : List Change) → Change → Message

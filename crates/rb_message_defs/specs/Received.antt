@@ -1,6 +1,6 @@
 -- What an event buffer has received, and which epoch it can put together. Each test is one on the list of messages, the newest
 -- first. The buckets and their messages are this project's own.
-use Rattle.std.specs.Prelude.{ℕ, ◌==◌, nat_le, nat_lt, ◌&&◌, Bool, true, false, if◌then◌else◌, List, [], ◌∷◌, map, filter_map, Option, Some, None, is_some, is_none}
+use Rattle.std.specs.Prelude.{ℕ, ◌==◌, nat_le, ◌&&◌, Bool, if◌then◌else◌, List, [], ◌∷◌, map, filter_map, Option, Some, None, is_some, is_none}
 use Rattle.std.specs.Prelude.{◌<◌, ◌≤◌, Contains}
 use Rattle.std.specs.List.{find, list_all}
 use Rattle.std.specs.Option.{option_map, option_map_or, option_and_then, option_or}

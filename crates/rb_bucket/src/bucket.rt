@@ -1,0 +1,137 @@
+ghost use Rattle.std.specs.Prelude.{◌≡◌, ◌+◌, ◌-◌, ◌^◌, ◌<◌, ◌≤◌, ◌==◌, ℕ, if◌then◌else◌, length, [], ◌∷◌, ◌++◌, IfOk, OnOk, OnErr, IsSome};
+ghost use Rattle.std.specs.Ordering.{nat_cmp};
+ghost use Rattle.std.specs.BTreeMap as tree;
+ghost use Rattle.rb_bucket.specs.Bucket.{changes_in};
+
+use rb_base::{Change, Changes, Epoch, NoMemory};
+use std::alloc::Global;
+use std::collections::BTreeMap;
+
+// An epoch that was closed, and the one that was closed before it.
+#[derive(Clone, Copy)]
+struct Close {
+    epoch: Epoch,
+    prev: Epoch,
+}
+
+/// The buffer of one data node, of the buckets of its group.
+#[derive(Drop)]
+pub struct BucketBuffer {
+    alloc: Global,
+    // The lowest bucket of the group.
+    first: u32,
+    // The changes by bucket, from the lowest, and by epoch.
+    buckets: Vec<BTreeMap<u64, Changes>>,
+    closes: Vec<Close>,
+    since: Epoch,
+}
+
+impl BucketBuffer {
+    ghost use Rattle.rb_bucket.specs.Bucket.{changes_kept, closes_kept, since_of, IsBucketOf, with_change};
+
+    /// An empty buffer of the buckets from `first` on, so many, that buffers from the epoch `since` on.
+    pub fn new(
+        alloc: Global,
+        first: u32,
+        buckets: u32,
+        since: Epoch,
+    ) -> Result<BucketBuffer, NoMemory>
+        requires fits { first + buckets ≤ 2 ^ 32 }
+        ensures empty { IfOk result (λ buffer. (epoch bucket : ℕ) → changes_kept buffer epoch bucket ≡ []) }
+        ensures closes { IfOk result (λ buffer. closes_kept buffer ≡ []) }
+        ensures since { IfOk result (λ buffer. since_of buffer ≡ since.0) }
+        ensures buckets { IfOk result (λ buffer. (bucket : ℕ) → first ≤ bucket → bucket < first + buckets → IsBucketOf buffer bucket) }
+    {
+        let mut kept = Vec::new(alloc);
+        for _ in 0..buckets {
+            kept.push(BTreeMap::new(alloc))?;
+        }
+        Ok(BucketBuffer {
+            alloc,
+            first,
+            buckets: kept,
+            closes: Vec::new(alloc),
+            since,
+        })
+    }
+
+    /// Buffers a change of a bucket in an epoch, and answers its place, which counts the bucket's changes in the epoch from 0.
+    /// Without memory nothing is buffered.
+    pub fn add(&mut self, bucket: u32, epoch: Epoch, change: Change) -> Result<u32, NoMemory>
+        requires bucket { IsBucketOf self.old bucket }
+        requires room { length (changes_kept self.old epoch.0 bucket) < 2 ^ 32 - 1 }
+        ensures place { IfOk result (λ place. place ≡ length (changes_kept self.old epoch.0 bucket)) }
+        ensures kept { OnOk result ((e b : ℕ) → changes_kept self.new e b ≡ with_change epoch.0 bucket change (changes_kept self.old) e b) }
+        ensures memory { OnErr result ((e b : ℕ) → changes_kept self.new e b ≡ changes_kept self.old e b) }
+        ensures closes { closes_kept self.new ≡ closes_kept self.old }
+        ensures since { since_of self.new ≡ since_of self.old }
+        ensures buckets { (b : ℕ) → IsBucketOf self.old b → IsBucketOf self.new b }
+    {
+        let alloc = self.alloc;
+        let kept = &mut self.buckets[(bucket - self.first) as usize];
+        enter(alloc, kept, epoch.0)?;
+        let place = append(kept, epoch.0, change)?;
+        Ok(place)
+    }
+
+    /// Keeps that an epoch was closed, and which was closed before it, or 0. Without memory nothing is kept.
+    pub fn close(&mut self, epoch: Epoch, prev: Epoch) -> Result<(), NoMemory>
+        ensures ok { OnOk result (closes_kept self.new ≡ closes_kept self.old ++ (epoch.0, prev.0) ∷ []) }
+        ensures memory { OnErr result (closes_kept self.new ≡ closes_kept self.old) }
+        ensures kept { (e b : ℕ) → changes_kept self.new e b ≡ changes_kept self.old e b }
+        ensures since { since_of self.new ≡ since_of self.old }
+        ensures buckets { (b : ℕ) → IsBucketOf self.old b → IsBucketOf self.new b }
+    {
+        self.closes.push(Close { epoch, prev })?;
+        Ok(())
+    }
+
+    /// How many changes it holds of a bucket in an epoch.
+    pub fn count(&self, bucket: u32, epoch: Epoch) -> u32
+        requires bucket { IsBucketOf self.now bucket }
+        requires fits { length (changes_kept self.now epoch.0 bucket) < 2 ^ 32 }
+        ensures { result ≡ length (changes_kept self.now epoch.0 bucket) }
+    {
+        let epochs = &self.buckets[(bucket - self.first) as usize];
+        match epochs.get(&epoch.0) {
+            Some(changes) => changes.as_slice().len() as u32,
+            None => 0,
+        }
+    }
+
+    /// The epoch from which on it buffers.
+    pub fn since(&self) -> Epoch
+        ensures { result.0 ≡ since_of self.now }
+    {
+        self.since
+    }
+}
+
+// There is a list for the changes of an epoch.
+fn enter(alloc: Global, epochs: &mut BTreeMap<u64, Changes>, epoch: u64) -> Result<(), NoMemory>
+    ensures there { OnOk result (IsSome (tree.get nat_cmp epochs.new epoch)) }
+    ensures same { (e : ℕ) → changes_in epochs.new e ≡ changes_in epochs.old e }
+{
+    if !epochs.contains_key(&epoch) {
+        epochs.insert(epoch, Changes::new(alloc))?;
+    }
+    Ok(())
+}
+
+// Appends a change to the list of an epoch, and answers its place.
+fn append(epochs: &mut BTreeMap<u64, Changes>, epoch: u64, change: Change) -> Result<u32, NoMemory>
+    requires there { IsSome (tree.get nat_cmp epochs.old epoch) }
+    requires room { length (changes_in epochs.old epoch) < 2 ^ 32 - 1 }
+    ensures place { IfOk result (λ place. place ≡ length (changes_in epochs.old epoch)) }
+    ensures kept { OnOk result ((e : ℕ) → changes_in epochs.new e ≡ (if epoch == e then changes_in epochs.old e ++ change ∷ [] else changes_in epochs.old e)) }
+    ensures memory { OnErr result ((e : ℕ) → changes_in epochs.new e ≡ changes_in epochs.old e) }
+{
+    match epochs.get_mut(&epoch) {
+        Some(changes) => {
+            let place = changes.as_slice().len() as u32;
+            changes.push(change)?;
+            Ok(place)
+        }
+        None => Ok(0),
+    }
+}

@@ -1,0 +1,12 @@
+//! One data node's buffer of the changes of its group's buckets, by bucket and epoch, and of the epochs that were closed.
+//!
+//! What a buffer holds is a list for each bucket and epoch (`changes_kept`), and the closed epochs (`closes_kept`); each call
+//! says how these change. The values that are buffered stand below.
+#![tactic(auto)]
+
+mod bucket;
+
+pub use bucket::BucketBuffer;
+
+#[cfg(test)]
+mod tests;

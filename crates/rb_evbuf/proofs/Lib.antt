@@ -1,0 +1,4 @@
+mod Feeding
+mod Numbers
+mod Places
+mod Taking

@@ -1,0 +1,185 @@
+-- How many changes bodies and journals have.
+use Rattle.std.proofs.Common.{◌≡◌, ◌≢◌, ℕ, zero, suc, ◌+◌, ◌<◌, ◌≤◌, Bool, true, false, cond, List, [], ◌∷◌, length, map, filter, refl, sym, ap, subst, ◌∙◌, inl, inr, arith, eq-eqb, ne_eqb, length-append}
+use Rattle.std.specs.Prelude.{◌⊎◌, ◌==◌, ◌||◌, sum_by, if◌then◌else◌}
+use Rattle.std.specs.List.{AllByRecursion, flat_map, enumerate_from}
+use Rattle.std.proofs.lemmas.List.Sums.{sum_by-cons, sum_by-append}
+use Rattle.rb_base.specs.Bucket.{bucket_number}
+use Rattle.rb_base.specs.declared.site.SiteId.{SiteId}
+use Rattle.rb_base.specs.declared.change.Change.{Change}
+use Rattle.rb_base.specs.declared.schema.Schema.{Schema}
+use Rattle.rb_base.specs.declared.schema.Mapped.{Mapped}
+use Rattle.rb_journal_defs.specs.Journal.{Entry, Journal, epoch_of, changes_of}
+use Rattle.rb_journal_defs.specs.Body.{Shape, changes_in, in_bucket, part_of, numbers_below, is_logged, body_changes, is_named_in, mapped_table, mapped_tables}
+use Rattle.rb_journal_defs.proofs.Order.{Rises, eq_or_ne}
+
+-- all changes of a journal
+abbrev pub changes_made : SiteId → Journal → ℕ
+changes_made site j = sum_by (λ entry. length (changes_of site entry)) j
+
+pub filter_length : {X : Type 0} → (test : X → Bool) (xs : List X) → length (filter test xs) ≤ length xs
+filter_length test [] = omega arith
+filter_length test (x ∷ xs) = go (test x) (filter_length test xs)
+  where
+    go : (b : Bool) → length (filter test xs) ≤ length xs → length (cond b (x ∷ filter test xs) (filter test xs)) ≤ suc (length xs)
+    go true h = omega arith
+    go false h = omega arith
+
+-- a number is counted once below another
+abbrev pub one_at : (k n : ℕ) → ℕ → ℕ
+one_at k n b = cond (k == b) n 0
+
+none_at : (k n m : ℕ) → m ≤ k → sum_by (one_at k n) (numbers_below m) ≡ 0
+none_at k n zero l = refl
+none_at k n (suc m) l = sum_by-append (one_at k n) (numbers_below m) (m ∷ []) ∙ rw (none_at k n m (omega arith), ne_eqb k m (omega arith)) refl
+
+once_at : (k n m : ℕ) → sum_by (one_at k n) (numbers_below m) ≤ n
+once_at k n zero = omega arith
+once_at k n (suc m) = go (eq_or_ne k m) (once_at k n m)
+  where
+    parts : sum_by (one_at k n) (numbers_below (suc m)) ≡ sum_by (one_at k n) (numbers_below m) + sum_by (one_at k n) (m ∷ [])
+    parts = sum_by-append (one_at k n) (numbers_below m) (m ∷ [])
+
+    go : (k ≡ m) ⊎ (k ≢ m) → sum_by (one_at k n) (numbers_below m) ≤ n → sum_by (one_at k n) (numbers_below (suc m)) ≤ n
+    go (inl q) h = let z : sum_by (one_at k n) (numbers_below m) ≡ 0 = none_at k n m (omega arith) in let o : sum_by (one_at k n) (m ∷ []) ≡ n = rw (eq-eqb k m q) (omega arith) in omega (arith, parts)
+    go (inr d) h = let o : sum_by (one_at k n) (m ∷ []) ≡ 0 = rw (ne_eqb k m d) refl in omega (arith, parts)
+
+-- sums of sums
+sum_plus : {X : Type 0} → (f g : X → ℕ) (xs : List X) → sum_by (λ x. f x + g x) xs ≡ sum_by f xs + sum_by g xs
+sum_plus f g [] = refl
+sum_plus f g (x ∷ xs) = omega (arith, sum_by-cons (λ x. f x + g x) x xs, sum_by-cons f x xs, sum_by-cons g x xs, sum_plus f g xs)
+
+sum_same : {X : Type 0} → (f g : X → ℕ) (xs : List X) → ((x : X) → f x ≡ g x) → sum_by f xs ≡ sum_by g xs
+sum_same f g [] same = refl
+sum_same f g (x ∷ xs) same = omega (arith, sum_by-cons f x xs, sum_by-cons g x xs, same x, sum_same f g xs same)
+
+sum_zero : {X : Type 0} → (xs : List X) → sum_by (λ x. 0) xs ≡ 0
+sum_zero [] = refl
+sum_zero (x ∷ xs) = omega (arith, sum_by-cons (λ x. 0) x xs, sum_zero xs)
+
+bucket_more : (buckets b : ℕ) (c : Change) (cs : List Change) → length (in_bucket buckets b (c ∷ cs)) ≡ one_at (bucket_number c.table c.key buckets) 1 b + length (in_bucket buckets b cs)
+bucket_more buckets b c cs = go (bucket_number c.table c.key buckets == b)
+  where
+    go : (x : Bool) → length (cond x (c ∷ in_bucket buckets b cs) (in_bucket buckets b cs)) ≡ cond x 1 0 + length (in_bucket buckets b cs)
+    go true = omega arith
+    go false = omega arith
+
+-- each change is in one bucket at most
+buckets_length : (buckets n : ℕ) (cs : List Change) → sum_by (λ b. length (in_bucket buckets b cs)) (numbers_below n) ≤ length cs
+buckets_length buckets n [] = let z : sum_by (λ (b : ℕ). 0) (numbers_below n) ≡ 0 = sum_zero (numbers_below n) in omega arith
+buckets_length buckets n (c ∷ cs) =
+    let k = bucket_number c.table c.key buckets in
+    let parts = sum_same (λ b. length (in_bucket buckets b (c ∷ cs))) (λ b. one_at k 1 b + length (in_bucket buckets b cs)) (numbers_below n) (λ b. bucket_more buckets b c cs) in
+    let two = sum_plus (one_at k 1) (λ b. length (in_bucket buckets b cs)) (numbers_below n) in
+    let one = once_at k 1 n in
+    let rest = buckets_length buckets n cs in
+    omega arith
+
+joined_length : {X : Type 0} → (f : ℕ → List X) (xs : List ℕ) → length (flat_map f xs) ≡ sum_by (λ x. length (f x)) xs
+joined_length f [] = refl
+joined_length f (x ∷ xs) = omega (arith, length-append (f x) (flat_map f xs), sum_by-cons (λ x. length (f x)) x xs, joined_length f xs)
+
+-- a body has no more changes than its epoch
+pub body_length : (shape : Shape) (e : ℕ) (j : Journal) → length (body_changes shape e j) ≤ length (changes_in shape.site e j)
+body_length shape e j =
+    let parts = flat_map (λ bucket. part_of shape e bucket j) (numbers_below shape.buckets) in
+    let f = filter_length (is_logged shape.site) parts in
+    let s = joined_length (λ bucket. part_of shape e bucket j) (numbers_below shape.buckets) in
+    let b = buckets_length shape.buckets shape.buckets (changes_in shape.site e j) in
+    omega arith
+
+-- rising numbers count one number once
+rising_none : (k n : ℕ) (xs : List ℕ) → AllByRecursion (λ y. k < y) xs → sum_by (one_at k n) xs ≡ 0
+rising_none k n [] all = refl
+rising_none k n (x ∷ xs) all = let l : k < x = all.0 in omega (arith, sum_by-cons (one_at k n) x xs, (let z : one_at k n x ≡ 0 = rw (ne_eqb k x (omega arith)) refl in z), rising_none k n xs all.1)
+
+rising_once : (k n top : ℕ) (xs : List ℕ) → Rises top xs → sum_by (one_at k n) xs ≤ n
+rising_once k n top [] rises = omega arith
+rising_once k n top (x ∷ xs) rises = go (eq_or_ne k x) (rising_once k n top xs rises.3)
+  where
+    go : (k ≡ x) ⊎ (k ≢ x) → sum_by (one_at k n) xs ≤ n → sum_by (one_at k n) (x ∷ xs) ≤ n
+    go (inl q) h =
+        let z : sum_by (one_at x n) xs ≡ 0 = rising_none x n xs rises.2 in
+        let zk : sum_by (one_at k n) xs ≡ 0 = subst (λ (m : ℕ). sum_by (one_at m n) xs ≡ 0) (sym q) z in
+        let o : one_at k n x ≡ n = rw (eq-eqb k x q) refl in omega (arith, sum_by-cons (one_at k n) x xs)
+    go (inr d) h = let o : one_at k n x ≡ 0 = rw (ne_eqb k x d) refl in omega (arith, sum_by-cons (one_at k n) x xs)
+
+in_epoch : (site : SiteId) (e : ℕ) (x : Entry) (j : Journal) → length (changes_in site e (x ∷ j)) ≡ length (changes_in site e j) + one_at (epoch_of x) (length (changes_of site x)) e
+in_epoch site e x j = length-append (changes_in site e j) (if epoch_of x == e then changes_of site x else []) ∙ ap (λ (n : ℕ). length (changes_in site e j) + n) (go (epoch_of x == e))
+  where
+    go : (b : Bool) → length (cond b (changes_of site x) []) ≡ cond b (length (changes_of site x)) 0
+    go true = refl
+    go false = refl
+
+-- the changes of rising epochs are no more than all
+pub epochs_length : (site : SiteId) (top : ℕ) (es : List ℕ) (j : Journal) → Rises top es → sum_by (λ e. length (changes_in site e j)) es ≤ changes_made site j
+epochs_length site top es [] rises = let z : sum_by (λ (e : ℕ). 0) es ≡ 0 = sum_zero es in omega arith
+epochs_length site top es (x ∷ j) rises =
+    let n = length (changes_of site x) in
+    let parts = sum_same (λ e. length (changes_in site e (x ∷ j))) (λ e. length (changes_in site e j) + one_at (epoch_of x) n e) es (λ e. in_epoch site e x j) in
+    let two = sum_plus (λ e. length (changes_in site e j)) (one_at (epoch_of x) n) es in
+    let one = rising_once (epoch_of x) n top es rises in
+    let rest = epochs_length site top es j rises in
+    omega (arith, sum_by-cons (λ (entry : Entry). length (changes_of site entry)) x j)
+
+-- one epoch's changes are no more than all
+pub epoch_length : (site : SiteId) (e : ℕ) (j : Journal) → length (changes_in site e j) ≤ changes_made site j
+epoch_length site e [] = omega arith
+epoch_length site e (x ∷ j) =
+    let n = length (changes_of site x) in
+    let s = in_epoch site e x j in
+    let o : one_at (epoch_of x) n e ≤ n = go (epoch_of x == e) in
+    let rest = epoch_length site e j in
+    omega (arith, sum_by-cons (λ (entry : Entry). length (changes_of site entry)) x j)
+  where
+    go : (b : Bool) → cond b (length (changes_of site x)) 0 ≤ length (changes_of site x)
+    go true = omega arith
+    go false = omega arith
+
+-- tables whose numbers rise
+RiseFrom : ℕ → List Mapped → Type 0
+RiseFrom n [] = Unit {0}
+RiseFrom n (table ∷ tables) = (table.id ≡ n) × RiseFrom (suc n) tables
+
+mapped_rise : (n : ℕ) (schemas : List Schema) → RiseFrom n (map mapped_table (enumerate_from n schemas))
+unfolding RiseFrom
+mapped_rise n [] = tt
+mapped_rise n (schema ∷ schemas) = (refl, subst (λ (m : ℕ). RiseFrom m (map mapped_table (enumerate_from (n + 1) schemas))) (omega arith) (mapped_rise (n + 1) schemas))
+
+named_none : (k n : ℕ) (tables : List Mapped) → k < n → RiseFrom n tables → length (filter (λ table. k == table.id) tables) ≡ 0
+unfolding RiseFrom
+named_none k n [] l rise = refl
+named_none k n (table ∷ tables) l rise = let q = rise.0 in rw (ne_eqb k table.id (omega arith)) (named_none k (suc n) tables (omega arith) rise.1)
+
+named_once : (k n : ℕ) (tables : List Mapped) → RiseFrom n tables → length (filter (λ table. k == table.id) tables) ≤ 1
+unfolding RiseFrom
+named_once k n [] rise = omega arith
+named_once k n (table ∷ tables) rise = go (eq_or_ne k table.id) (named_once k (suc n) tables rise.1)
+  where
+    go : (k ≡ table.id) ⊎ (k ≢ table.id) → length (filter (λ table. k == table.id) tables) ≤ 1 → length (filter (λ table. k == table.id) (table ∷ tables)) ≤ 1
+    go (inl q) h = let p = rise.0 in let z : length (filter (λ table. k == table.id) tables) ≡ 0 = named_none k (suc n) tables (omega arith) rise.1 in rw (eq-eqb k table.id q) (omega arith)
+    go (inr d) h = rw (ne_eqb k table.id d) h
+
+either_length : {X : Type 0} → (f g : X → Bool) (xs : List X) → length (filter (λ x. f x || g x) xs) ≤ length (filter f xs) + length (filter g xs)
+either_length f g [] = omega arith
+either_length f g (x ∷ xs) = go (f x) (g x) (either_length f g xs)
+  where
+    go : (a b : Bool) → length (filter (λ x. f x || g x) xs) ≤ length (filter f xs) + length (filter g xs) → length (cond (a || b) (x ∷ filter (λ x. f x || g x) xs) (filter (λ x. f x || g x) xs)) ≤ length (cond a (x ∷ filter f xs) (filter f xs)) + length (cond b (x ∷ filter g xs) (filter g xs))
+    go true true h = omega arith
+    go true false h = omega arith
+    go false true h = omega arith
+    go false false h = omega arith
+
+named_length : (n : ℕ) (tables : List Mapped) (changes : List Change) → RiseFrom n tables → length (filter (is_named_in changes) tables) ≤ length changes
+named_length n tables [] rise = let z : length (filter (λ (table : Mapped). false) tables) ≡ 0 = none tables in omega arith
+  where
+    none : (tables : List Mapped) → length (filter (λ (table : Mapped). false) tables) ≡ 0
+    none [] = refl
+    none (table ∷ tables) = none tables
+named_length n tables (change ∷ changes) rise =
+    let e : length (filter (is_named_in (change ∷ changes)) tables) ≤ length (filter (λ table. change.table == table.id) tables) + length (filter (is_named_in changes) tables) = either_length (λ table. change.table == table.id) (is_named_in changes) tables in
+    let o = named_once change.table n tables rise in
+    let rest = named_length n tables changes rise in omega arith
+
+-- changes name no more declared tables than there are changes
+pub tables_length : (schemas : List Schema) (changes : List Change) → length (filter (is_named_in changes) (mapped_tables schemas)) ≤ length changes
+tables_length schemas changes = named_length 1 (mapped_tables schemas) changes (mapped_rise 1 schemas)
