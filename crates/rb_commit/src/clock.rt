@@ -6,7 +6,7 @@ use std::alloc::Global;
 use std::marker::Model;
 
 /// The clock of a site: which epoch is open, which was closed before it, and how many transactions of the site's
-/// clients and of its injector have a number.
+/// clients and of its applier have a number.
 #[derive(Debug, Drop)]
 pub struct Clock {
     open: Epoch,

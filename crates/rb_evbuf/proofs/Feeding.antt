@@ -66,6 +66,8 @@ old_message buffer fed message stands below old =
       sound = stands.sound;
       places = λ epoch bucket place later. stands.places epoch bucket place later
           ∙ sym (ap (λ (o : Option Change). option_or (part_in fed.received epoch bucket place) o) (other_change message epoch bucket place (λ (same : epoch_in message ≡ epoch). absurd (omega arith))) ∙ or_none (part_in fed.received epoch bucket place));
+      gone_places = stands.gone_places;
+      gone_counts = stands.gone_counts;
       counts = λ epoch bucket later. stands.counts epoch bucket later
           ∙ sym (ap (λ (o : Option ℕ). option_or (count_in fed.received epoch bucket) o) (other_count message epoch bucket (λ (same : epoch_in message ≡ epoch). absurd (omega arith))) ∙ or_none (count_in fed.received epoch bucket));
       behind = λ chained epoch from. stands.behind (chained_before message fed.received chained) epoch from
@@ -85,22 +87,26 @@ shows_same old new fed stands buckets last sound places counts behind = record {
   sound = sound stands.sound;
   places = λ e b p later. places e b p ∙ stands.places e b p later;
   counts = λ e b later. counts e b ∙ stands.counts e b later;
+  gone_places = λ e b p low. places e b p ∙ stands.gone_places e b p low;
+  gone_counts = λ e b low. counts e b ∙ stands.gone_counts e b low;
   behind = λ chained e from. behind e ∙ stands.behind chained e from;
 }
 
 -- a change that is not old
-pub kept_part : (old new : EventBuffer) (fed : Fed) (bucket : ℕ) (epoch : Epoch) (place : ℕ) (change : Change) → StandsFor old fed → bucket < old.buckets →
+pub kept_part : (old new : EventBuffer) (fed : Fed) (bucket : ℕ) (epoch : Epoch) (place : ℕ) (change : Change) → StandsFor old fed → bucket < old.buckets → old.last.0 < epoch.0 →
     new.buckets ≡ old.buckets → new.last ≡ old.last → (AreSound old → AreSound new) →
     ((e b p : ℕ) → place_of new e b p ≡ option_or (place_of old e b p) (if (epoch.0 == e) && (bucket == b) && (place == p) then Some change else None)) →
     ((e b : ℕ) → count_of new e b ≡ count_of old e b) → ((e : ℕ) → behind_of new e ≡ behind_of old e) →
     StandsFor new (record fed { received = Part bucket epoch place change ∷ fed.received })
-kept_part old new fed bucket epoch place change stands below buckets last sound places counts behind = record {
+kept_part old new fed bucket epoch place change stands below later buckets last sound places counts behind = record {
   buckets = buckets ∙ stands.buckets;
   last = ap (λ (e : Epoch). e.0) last ∙ stands.last;
   some = no_buckets (Part bucket epoch place change) fed.received old.buckets fed.buckets below stands.buckets;
   sound = sound stands.sound;
   places = λ e b p later. places e b p ∙ ap (λ (o : Option Change). option_or o (if (epoch.0 == e) && (bucket == b) && (place == p) then Some change else None)) (stands.places e b p later);
   counts = λ e b later. counts e b ∙ stands.counts e b later ∙ sym (or_none (count_in fed.received e b));
+  gone_places = λ e b p low. places e b p ∙ rw (ne_eqb epoch.0 e (λ same. absurd (let h : old.last.0 ≡ fed.last = stands.last in omega arith))) (or_none (place_of old e b p) ∙ stands.gone_places e b p low);
+  gone_counts = λ e b low. counts e b ∙ stands.gone_counts e b low;
   behind = λ chained e from. behind e ∙ stands.behind (chained_before (Part bucket epoch place change) fed.received chained) e from;
 }
 
@@ -109,19 +115,21 @@ first_or true e es o is = refl
 first_or false e es o is = is
 
 -- a Done that is not old
-pub kept_done : (old new : EventBuffer) (fed : Fed) (bucket : ℕ) (epoch prev : Epoch) (count : ℕ) → StandsFor old fed → bucket < old.buckets →
+pub kept_done : (old new : EventBuffer) (fed : Fed) (bucket : ℕ) (epoch prev : Epoch) (count : ℕ) → StandsFor old fed → bucket < old.buckets → old.last.0 < epoch.0 →
     new.buckets ≡ old.buckets → new.last ≡ old.last → (AreSound old → AreSound new) →
     ((e b p : ℕ) → place_of new e b p ≡ place_of old e b p) →
     ((e b : ℕ) → count_of new e b ≡ option_or (count_of old e b) (if (epoch.0 == e) && (bucket == b) then Some count else None)) →
     ((e : ℕ) → old.last.0 ≤ e → behind_of new e ≡ (if prev.0 == e then Some epoch.0 else behind_of old e)) →
     StandsFor new (record fed { received = Done bucket epoch prev count ∷ fed.received })
-kept_done old new fed bucket epoch prev count stands below buckets last sound places counts behind = record {
+kept_done old new fed bucket epoch prev count stands below later buckets last sound places counts behind = record {
   buckets = buckets ∙ stands.buckets;
   last = ap (λ (e : Epoch). e.0) last ∙ stands.last;
   some = no_buckets (Done bucket epoch prev count) fed.received old.buckets fed.buckets below stands.buckets;
   sound = sound stands.sound;
   places = λ e b p later. places e b p ∙ stands.places e b p later ∙ sym (or_none (part_in fed.received e b p));
   counts = λ e b later. counts e b ∙ ap (λ (o : Option ℕ). option_or o (if (epoch.0 == e) && (bucket == b) then Some count else None)) (stands.counts e b later);
+  gone_places = λ e b p low. places e b p ∙ stands.gone_places e b p low;
+  gone_counts = λ e b low. counts e b ∙ rw (ne_eqb epoch.0 e (λ same. absurd (let h : old.last.0 ≡ fed.last = stands.last in omega arith))) (or_none (count_of old e b) ∙ stands.gone_counts e b low);
   behind = λ chained e from. behind e (let h : old.last.0 ≡ fed.last = stands.last in omega arith)
       ∙ first_or (prev.0 == e) epoch.0 (filter_map (epoch_behind e) fed.received) (behind_of old e) (stands.behind (chained_before (Done bucket epoch prev count) fed.received chained) e from);
 }

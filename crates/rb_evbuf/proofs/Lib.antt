@@ -2,3 +2,4 @@ mod Feeding
 mod Numbers
 mod Places
 mod Taking
+mod Between

@@ -1,5 +1,5 @@
 -- What a buffer misses, and what it stands for once an epoch is taken.
-use Rattle.std.proofs.Common.{◌≡◌, ◌⊎◌, inl, inr, ℕ, ◌<◌, zero, suc, Bool, true, false, cond, List, [], ◌∷◌, map, refl, subst, sym, ap, ◌∙◌, arith}
+use Rattle.std.proofs.Common.{◌≡◌, ◌⊎◌, inl, inr, ℕ, ◌<◌, ◌≤◌, zero, suc, Bool, true, false, cond, List, [], ◌∷◌, map, refl, subst, sym, ap, ◌∙◌, arith}
 use Rattle.std.specs.Prelude.{◌==◌, if◌then◌else◌, nat_lt, Option, Some, None, is_none, is_some, filter_map, IfSome}
 use Rattle.std.specs.List.{cons_option}
 use Rattle.std.specs.Option.{option_and_then, option_map, option_map_or}
@@ -19,10 +19,11 @@ use Rattle.rb_message_defs.specs.declared.answers.Missing.{Missing}
 use Rattle.rb_message_defs.specs.declared.answers.Assembled.{Assembled}
 use Rattle.rb_evbuf.specs.Gathered.{missing_under, part_under}
 use Rattle.rb_evbuf.specs.Epoch.{place_at, count_at, IsSound, missing_in, parts_in}
-use Rattle.rb_evbuf.specs.Buffer.{StandsFor, behind_of}
+use Rattle.rb_evbuf.specs.Buffer.{StandsFor, place_of, count_of, behind_of}
 use Rattle.rb_evbuf.specs.declared.epoch.GatheredEpoch.{GatheredEpoch}
 use Rattle.rb_evbuf.specs.declared.buffer.EventBuffer.{EventBuffer}
 use Rattle.rb_evbuf.proofs.Feeding.{chained_before, head_of}
+use Rattle.rb_evbuf.proofs.Between.{lt_or_le, no_part_between, no_count_between}
 use Rattle.rb_evbuf.proofs.Numbers.{find_same, filter_map_same, map_same, all_none, first_at_zero}
 
 is_equal : (b : Bool) → is_eq (cond b Equal Greater) ≡ b
@@ -204,6 +205,8 @@ stands_taken old new fed assembled stands chained next is buckets last behind ep
       counts = λ epoch bucket after.
           ap (option_and_then (λ (g : GatheredEpoch). count_at g bucket)) (without_key old.epochs new.epochs assembled.epoch.0 epoch epochs (λ same. absurd (omega arith)))
           ∙ stands.counts epoch bucket (omega (arith, later));
+      gone_places = λ epoch bucket place low. gone_place epoch bucket place low (cases_eq assembled.epoch.0 epoch) (lt_or_le fed.last epoch);
+      gone_counts = λ epoch bucket low. gone_count epoch bucket low (cases_eq assembled.epoch.0 epoch) (lt_or_le fed.last epoch);
       behind = λ _ epoch from.
           ap (option_map (λ (e : Epoch). e.0)) (without_key old.behind new.behind old.last.0 epoch behind (λ same. absurd (let h : old.last.0 ≡ fed.last = stands.last in omega (arith, later))))
           ∙ stands.behind chained epoch (omega (arith, later));
@@ -211,6 +214,29 @@ stands_taken old new fed assembled stands chained next is buckets last behind ep
   where
     later : fed.last < assembled.epoch.0
     later = next_later fed.received fed.last assembled.epoch.0 chained next
+
+    removed : (epoch : ℕ) → assembled.epoch.0 ≡ epoch → tree.get nat_cmp new.epochs epoch ≡ None
+    removed epoch same = ap (tree.get nat_cmp new.epochs) (sym same) ∙ epochs.1
+
+    gone_place : (epoch bucket place : ℕ) → epoch ≤ assembled.epoch.0 → (assembled.epoch.0 ≡ epoch) ⊎ (assembled.epoch.0 ≡ epoch → ⊥) → (fed.last < epoch) ⊎ (epoch ≤ fed.last) → place_of new epoch bucket place ≡ None
+    gone_place epoch bucket place low (inl same) between = ap (option_and_then (λ (g : GatheredEpoch). place_at g bucket place)) (removed epoch same)
+    gone_place epoch bucket place low (inr differs) (inl above) =
+        ap (option_and_then (λ (g : GatheredEpoch). place_at g bucket place)) (without_key old.epochs new.epochs assembled.epoch.0 epoch epochs differs)
+        ∙ stands.places epoch bucket place above
+        ∙ no_part_between fed.received fed.last assembled.epoch.0 epoch bucket place chained next above (omega arith)
+    gone_place epoch bucket place low (inr differs) (inr old_one) =
+        ap (option_and_then (λ (g : GatheredEpoch). place_at g bucket place)) (without_key old.epochs new.epochs assembled.epoch.0 epoch epochs differs)
+        ∙ stands.gone_places epoch bucket place old_one
+
+    gone_count : (epoch bucket : ℕ) → epoch ≤ assembled.epoch.0 → (assembled.epoch.0 ≡ epoch) ⊎ (assembled.epoch.0 ≡ epoch → ⊥) → (fed.last < epoch) ⊎ (epoch ≤ fed.last) → count_of new epoch bucket ≡ None
+    gone_count epoch bucket low (inl same) between = ap (option_and_then (λ (g : GatheredEpoch). count_at g bucket)) (removed epoch same)
+    gone_count epoch bucket low (inr differs) (inl above) =
+        ap (option_and_then (λ (g : GatheredEpoch). count_at g bucket)) (without_key old.epochs new.epochs assembled.epoch.0 epoch epochs differs)
+        ∙ stands.counts epoch bucket above
+        ∙ no_count_between fed.received fed.last assembled.epoch.0 epoch bucket chained next above (omega arith)
+    gone_count epoch bucket low (inr differs) (inr old_one) =
+        ap (option_and_then (λ (g : GatheredEpoch). count_at g bucket)) (without_key old.epochs new.epochs assembled.epoch.0 epoch epochs differs)
+        ∙ stands.gone_counts epoch bucket old_one
 
     sound : (epoch : ℕ) → (assembled.epoch.0 ≡ epoch) ⊎ (assembled.epoch.0 ≡ epoch → ⊥) → IfSome (tree.get nat_cmp new.epochs epoch) (λ g. IsSound g new.buckets)
     sound epoch (inl same) = subst (λ (o : Option GatheredEpoch). IfSome o (λ g. IsSound g new.buckets)) (sym (ap (tree.get nat_cmp new.epochs) (sym same) ∙ epochs.1)) tt

@@ -1,5 +1,5 @@
 -- What an event buffer stands for.
-use Rattle.std.specs.Prelude.{◌≡◌, ℕ, ◌≤◌, ◌<◌, [], filter_map, Option, IfSome}
+use Rattle.std.specs.Prelude.{◌≡◌, ℕ, ◌≤◌, ◌<◌, [], filter_map, Option, IfSome, None}
 use Rattle.std.specs.Option.{option_and_then, option_map}
 use Rattle.std.specs.Ordering.{nat_cmp}
 use Rattle.std.specs.BTreeMap as tree
@@ -35,7 +35,7 @@ abbrev pub AreSound : EventBuffer → Type 0
 AreSound buffer = (epoch : ℕ) → IfSome (tree.get nat_cmp buffer.epochs epoch) (λ gathered. IsSound gathered buffer.buckets)
 
 -- a buffer stands for what it was fed: it knows the places and counts of the epochs that are not taken yet, and which of them
--- is the next one
+-- is the next one; of those at or below the last taken one it keeps nothing
 pub record StandsFor (buffer : EventBuffer) (fed : Fed) : Type 0 where
   pub buckets : buffer.buckets ≡ fed.buckets
   pub last : buffer.last.0 ≡ fed.last
@@ -43,4 +43,6 @@ pub record StandsFor (buffer : EventBuffer) (fed : Fed) : Type 0 where
   pub sound : AreSound buffer
   pub places : (epoch bucket place : ℕ) → fed.last < epoch → place_of buffer epoch bucket place ≡ part_in fed.received epoch bucket place
   pub counts : (epoch bucket : ℕ) → fed.last < epoch → count_of buffer epoch bucket ≡ count_in fed.received epoch bucket
+  pub gone_places : (epoch bucket place : ℕ) → epoch ≤ fed.last → place_of buffer epoch bucket place ≡ None
+  pub gone_counts : (epoch bucket : ℕ) → epoch ≤ fed.last → count_of buffer epoch bucket ≡ None
   pub behind : AreChained fed.received → (epoch : ℕ) → fed.last ≤ epoch → behind_of buffer epoch ≡ first_of (filter_map (epoch_behind epoch) fed.received)

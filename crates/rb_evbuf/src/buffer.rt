@@ -77,7 +77,8 @@ impl EventBuffer {
         }
     }
 
-    /// Takes the next epoch out, where it is whole. It takes no memory.
+    /// Takes the next epoch out, where it is whole. It takes no memory. What is said of it holds for chained messages
+    /// (`AreChained`), as those of one journal are.
     pub fn take_epoch(&mut self) -> Option<Assembled>
         ensures answer { (fed : Fed) → StandsFor self.old fed → AreChained fed.received → result ≡ assembled_of fed }
         ensures taken { (fed : Fed) → StandsFor self.old fed → AreChained fed.received → StandsFor self.new (taken_from fed) }
@@ -97,7 +98,8 @@ impl EventBuffer {
         })
     }
 
-    /// The first thing that is missing of the next epoch, or `None` where it is whole. It takes no memory.
+    /// The first thing that is missing of the next epoch, or `None` where it is whole. It takes no memory. What is said of
+    /// it holds for chained messages (`AreChained`).
     pub fn missing(&self) -> Option<Missing>
         ensures { (fed : Fed) → StandsFor self.now fed → AreChained fed.received → result ≡ missing_of fed }
     {

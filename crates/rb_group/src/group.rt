@@ -94,7 +94,8 @@ impl Group {
         Ok((group, sent))
     }
 
-    /// The node that sends for a bucket.
+    /// The node that sends for a bucket. There always is one as long as no node fails; `None` is kept for a group that lost
+    /// its nodes.
     pub fn owner(&self, bucket: u32) -> Option<u32>
         requires bucket { IsBucketOf self.now bucket }
         ensures { (kept : Kept) → Keeps self.now kept → result ≡ Some (home_node bucket) }

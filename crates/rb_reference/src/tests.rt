@@ -44,6 +44,14 @@ const ROTATE: [u8; 39] = [
     0x2d, 0x62, 0x69, 0x6e, 0x2e, 0x30, 0x30, 0x30, 0x30, 0x30, 0x32,
 ];
 
+/// The greatest key with the text `a`, whose maximum is 255: its length has one byte.
+const SHORT_TEXT: [u8; 11] = [0, 0xff, 0xff, 0xff, 0xff, 0xff, 0xff, 0xff, 0xff, 1, 0x61];
+
+/// The same under a maximum of 256: its length has two bytes.
+const LONG_TEXT: [u8; 12] = [
+    0, 0xff, 0xff, 0xff, 0xff, 0xff, 0xff, 0xff, 0xff, 1, 0, 0x61,
+];
+
 /// The index row of an epoch of site A with nothing but inserts, in file 1.
 fn row(epoch: Epoch, position: u64, next_position: u64, inserts: u32, gci: u32) -> IndexRow {
     IndexRow {
@@ -138,6 +146,11 @@ fn texts_of_both_widths(rt: HostRuntime) -> Result<(), Fail> {
     let bodies = text_ends(rt.alloc())?;
     let files = binlog_files(rt.alloc(), SiteId::A, 1048576, &bodies)?;
     assert_eq!(rt; files.len(), 1);
-    assert_eq!(rt; files[0].as_slice().len(), 488);
+    let file = files[0].as_slice();
+    assert_eq!(rt; file.len(), 488);
+    assert!(rt; file[253..].starts_with(&[0xff, 0]), "metadata of x");
+    assert!(rt; file[294..].starts_with(&[0, 1]), "metadata of y");
+    assert!(rt; file[398..].starts_with(&SHORT_TEXT), "row of x");
+    assert!(rt; file[449..].starts_with(&LONG_TEXT), "row of y");
     Ok(())
 }

@@ -6,7 +6,8 @@ use rb_base::{Epoch, NoMemory, Row, Rows};
 use std::alloc::Global;
 use std::collections::BTreeMap;
 
-/// A row that is there, with the server id of the site that changed it last and that site's epoch of the change.
+/// A row that is there, with the server id of the site that made its last change, and the epoch of the site that holds it
+/// in which that change was stored.
 #[derive(Debug, Drop)]
 pub struct Held {
     pub row: Row,

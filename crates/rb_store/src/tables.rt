@@ -17,7 +17,7 @@ pub struct Tables {
 impl Tables {
     ghost use Rattle.rb_store.specs.Tables.{table_at, held_at, room_at, tables_in, rows_in, IsDeclared, with_held, room_less, room_more};
 
-    /// Empty tables with these columns.
+    /// As many empty tables as there are schemas.
     #[tactic(auto, unfolding(crate::specs::Tables::held_at, crate::specs::Tables::room_at, crate::specs::Tables::tables_in))]
     pub fn new(alloc: Global, schemas: &[Schema]) -> Result<Tables, NoMemory>
         requires few { length schemas.now < 2 ^ 16 }

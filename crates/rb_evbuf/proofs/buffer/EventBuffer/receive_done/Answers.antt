@@ -9,7 +9,7 @@ use Rattle.rb_base.specs.declared.message.Message.TheVariants.{Done}
 use Rattle.rb_evbuf.specs.Epoch.{place_at, count_at}
 use Rattle.rb_evbuf.specs.Buffer.{AreSound}
 use Rattle.rb_evbuf.specs.declared.epoch.GatheredEpoch.{GatheredEpoch}
-use Rattle.std.proofs.lemmas.Bool.{leb-true}
+use Rattle.std.proofs.lemmas.Bool.{leb-true, leb-false}
 use Rattle.rb_evbuf.proofs.Feeding.{old_message, kept_done, sound_same}
 use Rattle.rb_evbuf.proofs.buffer.EventBuffer.receive_done.Goals as goal
 
@@ -24,7 +24,7 @@ returns-clause-kept c = λ fed stands.
     let between : AreSound c.follow.new.self = sound_same c.enter.new.self c.follow.new.self followed.epochs followed.buckets (entered.sound stands.sound) in
     let buckets : c.follow.new.self.buckets ≡ c.args.self.now.buckets = followed.buckets ∙ entered.buckets in
     let last : c.enter.new.self.last.0 ≡ c.args.self.now.last.0 = ap (λ (e : Epoch). e.0) entered.last in
-    kept_done c.args.self.now c.tell-first.new.self fed c.args.bucket c.args.epoch c.args.prev c.args.count stands c.requires.bucket
+    kept_done c.args.self.now c.tell-first.new.self fed c.args.bucket c.args.epoch c.args.prev c.args.count stands c.requires.bucket (leb-false _ _ (sym c.is_taken.ensures ∙ c.if-is_taken.false))
     (told.buckets ∙ buckets) (told.last ∙ followed.last ∙ entered.last) (λ _. told.sound between)
     (λ e b p. told.places e b p ∙ ap (λ (m : BTreeMap ℕ GatheredEpoch). option_and_then (λ g. place_at g b p) (tree.get nat_cmp m e)) followed.epochs ∙ entered.places e b p)
     (λ e b. told.kept between (omega (arith, c.requires.bucket)) e b
