@@ -26,7 +26,7 @@ pub struct Change {
     pub before: Option<Row>,
     /// The row after it, where it leaves one.
     pub after: Option<Row>,
-    /// The server id of the site whose client or injector made the change.
+    /// The server id of the site whose client or applier made the change.
     pub author: u32,
     /// The number of the transaction at its author, from 1.
     pub transid: u64,

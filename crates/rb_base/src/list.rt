@@ -44,6 +44,13 @@ impl<T> Items<T> {
     {
         &self.items
     }
+
+    /// The vector of the list's items.
+    pub fn into_vec(self) -> Vec<T>
+        ensures { result.items ≡ self }
+    {
+        self.items
+    }
 }
 
 impl<T: Drop> Items<T> {

@@ -1,6 +1,10 @@
+ghost use Rattle.std.specs.Prelude.{◌≡◌, IfOk};
+
 use crate::change::Change;
 use crate::epoch::Epoch;
 use crate::list::Items;
+use crate::memory::NoMemory;
+use std::alloc::Global;
 
 /// What a data node sends to the injector's event buffer.
 #[derive(Debug, Drop)]
@@ -22,6 +26,38 @@ pub enum Message {
 }
 
 pub type Messages = Items<Message>;
+
+impl Message {
+    /// An equal message.
+    pub fn copy(&self, alloc: Global) -> Result<Message, NoMemory>
+        ensures { IfOk result (λ copy. copy ≡ self.now) }
+    {
+        Ok(match self {
+            Message::Part {
+                bucket,
+                epoch,
+                place,
+                change,
+            } => Message::Part {
+                bucket: *bucket,
+                epoch: *epoch,
+                place: *place,
+                change: change.copy(alloc)?,
+            },
+            Message::Done {
+                bucket,
+                epoch,
+                prev,
+                count,
+            } => Message::Done {
+                bucket: *bucket,
+                epoch: *epoch,
+                prev: *prev,
+                count: *count,
+            },
+        })
+    }
+}
 
 /// A message with the node that sent it.
 #[derive(Debug, Drop)]

@@ -2,8 +2,10 @@
 use Rattle.std.specs.Prelude.{ℕ, List, [], ◌∷◌, ◌++◌, codes}
 use Rattle.std.specs.Fmt.{decimal}
 use Rattle.rb_base.specs.declared.site.SiteId.TheVariants.{A, B}
-use Rattle.rb_script.specs.declared.fault.ScriptKind.{ScriptKind}
-use Rattle.rb_script.specs.declared.fault.ScriptKind.TheVariants.{Syntax}
+use Rattle.rb_text_defs.specs.declared.script.Limit.{Limit}
+use Rattle.rb_text_defs.specs.declared.script.Limit.TheVariants as limits
+use Rattle.rb_text_defs.specs.declared.script.ScriptKind.{ScriptKind}
+use Rattle.rb_text_defs.specs.declared.script.ScriptKind.TheVariants as kinds
 use Rattle.rb_top.specs.declared.status.Status.{Status}
 use Rattle.rb_top.specs.declared.status.Status.TheVariants as statuses
 
@@ -21,9 +23,25 @@ exit_number_of statuses.NoMemory = 7
 abbrev pub line_of : List ℕ → List ℕ
 line_of text = text ++ 10 ∷ []
 
+-- the name of a limit
+abbrev pub name_of_limit : Limit → List ℕ
+name_of_limit limits.Bytes = codes "Bytes"
+name_of_limit limits.Lines = codes "Lines"
+name_of_limit limits.Tables = codes "Tables"
+name_of_limit limits.Columns = codes "Columns"
+name_of_limit limits.RowBytes = codes "RowBytes"
+name_of_limit limits.Groups = codes "Groups"
+name_of_limit limits.Replicas = codes "Replicas"
+name_of_limit limits.LogLimit = codes "LogLimit"
+name_of_limit limits.TxChanges = codes "TxChanges"
+name_of_limit limits.Changes = codes "Changes"
+name_of_limit limits.Work = codes "Work"
+
 -- what is wrong with a script
 abbrev pub kind_of : ScriptKind → List ℕ
-kind_of Syntax = codes "syntax"
+kind_of kinds.Syntax = codes "syntax"
+kind_of kinds.Setup = codes "setup"
+kind_of (kinds.Limit limit) = codes "limit " ++ name_of_limit limit
 
 -- the line on a script that is not legal
 abbrev pub bad_script_line : (line : ℕ) → ScriptKind → List ℕ

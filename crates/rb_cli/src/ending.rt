@@ -1,12 +1,12 @@
-ghost use Rattle.std.specs.Prelude.{◌≡◌, IfOk, IsErrOf, OnOk, OnErr};
+ghost use Rattle.std.specs.Prelude.{◌≡◌, ◌++◌, IfOk, IsErrOf, OnOk, OnErr};
 ghost use Rattle.std.specs.Io.KnownBytes.{Appends};
 ghost use Rattle.rb_base.specs.Faults.{Rose};
 ghost use Rattle.rb_io.specs.Prefix.{GrowsByPrefix};
-ghost use Rattle.rb_cli.specs.Ending.{exit_number_of, fault_line_of, usage_line, bad_script_line};
+ghost use Rattle.rb_cli.specs.Ending.{exit_number_of, fault_line_of, usage_line, name_of_limit, kind_of, bad_script_line};
 
 use rb_base::{Bytes, NoMemory, OutFault, SiteId};
 use rb_io::{Sink, write_all};
-use rb_script::ScriptKind;
+use rb_script::{Limit, ScriptKind};
 use rb_top::Status;
 use std::alloc::Global;
 
@@ -68,8 +68,42 @@ fn bad_script_line(alloc: Global, line: u32, kind: ScriptKind) -> Result<Bytes, 
 {
     let mut text = Vec::from_slice(alloc, b"bad script: line ")?;
     text.extend_from_slice(line.to_string(alloc)?.as_bytes())?;
-    text.extend_from_slice(match kind {
-        ScriptKind::Syntax => b" syntax\n",
-    })?;
+    text.push(b' ')?;
+    put_kind(&mut text, kind)?;
+    text.push(b'\n')?;
     Ok(Bytes::from_vec(text))
+}
+
+// Appends what is wrong with a script.
+fn put_kind(text: &mut Vec<u8>, kind: ScriptKind) -> Result<(), NoMemory>
+    ensures { OnOk result (text.new.items ≡ text.old.items ++ kind_of kind) }
+{
+    match kind {
+        ScriptKind::Syntax => text.extend_from_slice(b"syntax")?,
+        ScriptKind::Setup => text.extend_from_slice(b"setup")?,
+        ScriptKind::Limit(limit) => {
+            text.extend_from_slice(b"limit ")?;
+            text.extend_from_slice(limit_name(limit))?;
+        }
+    }
+    Ok(())
+}
+
+// The name of a limit.
+fn limit_name(limit: Limit) -> &'static [u8]
+    ensures { result.now ≡ name_of_limit limit }
+{
+    match limit {
+        Limit::Bytes => b"Bytes",
+        Limit::Lines => b"Lines",
+        Limit::Tables => b"Tables",
+        Limit::Columns => b"Columns",
+        Limit::RowBytes => b"RowBytes",
+        Limit::Groups => b"Groups",
+        Limit::Replicas => b"Replicas",
+        Limit::LogLimit => b"LogLimit",
+        Limit::TxChanges => b"TxChanges",
+        Limit::Changes => b"Changes",
+        Limit::Work => b"Work",
+    }
 }

@@ -2,10 +2,11 @@ use crate::arguments::arguments;
 use crate::ending::{exit_number, tell};
 use rb_base::{Bytes, Numbers, OutFault, SiteId};
 use rb_io::{MemorySink, SteadySink};
-use rb_script::ScriptKind;
+use rb_script::{Limit, ScriptKind};
 use rb_top::Status;
 use std::alloc::Global;
 use std::env::{Env, FillError};
+use std::process::Abort;
 use std::test::Fail;
 
 // A command line.
@@ -91,6 +92,45 @@ fn statuses_end_so(rt: HostRuntime) -> Result<(), Fail> {
         tell(rt.alloc(), &mut out, status)?;
         assert_eq!(rt; exit_number(status), number, "at {status:?}");
         assert_eq!(rt; out.bytes(), line, "at {status:?}");
+    }
+    Ok(())
+}
+
+// This is told of line 3, where it is bad in this way.
+fn check(rt: &impl Abort, alloc: Global, kind: ScriptKind, told: &[u8]) -> Result<(), Fail> {
+    let mut out = SteadySink::new(alloc);
+    let status = Status::BadScript { line: 3, kind };
+    tell(alloc, &mut out, status)?;
+    assert_eq!(rt; exit_number(status), 3, "at {kind:?}");
+    assert_eq!(rt; out.bytes(), told, "at {kind:?}");
+    Ok(())
+}
+
+#[test]
+fn bad_lines_are_told_so(rt: HostRuntime) -> Result<(), Fail> {
+    let alloc = rt.alloc();
+    check(
+        &rt,
+        alloc,
+        ScriptKind::Syntax,
+        b"bad script: line 3 syntax\n",
+    )?;
+    check(&rt, alloc, ScriptKind::Setup, b"bad script: line 3 setup\n")?;
+    let cases: [(Limit, &[u8]); 11] = [
+        (Limit::Bytes, b"bad script: line 3 limit Bytes\n"),
+        (Limit::Lines, b"bad script: line 3 limit Lines\n"),
+        (Limit::Tables, b"bad script: line 3 limit Tables\n"),
+        (Limit::Columns, b"bad script: line 3 limit Columns\n"),
+        (Limit::RowBytes, b"bad script: line 3 limit RowBytes\n"),
+        (Limit::Groups, b"bad script: line 3 limit Groups\n"),
+        (Limit::Replicas, b"bad script: line 3 limit Replicas\n"),
+        (Limit::LogLimit, b"bad script: line 3 limit LogLimit\n"),
+        (Limit::TxChanges, b"bad script: line 3 limit TxChanges\n"),
+        (Limit::Changes, b"bad script: line 3 limit Changes\n"),
+        (Limit::Work, b"bad script: line 3 limit Work\n"),
+    ];
+    for (limit, told) in cases {
+        check(&rt, alloc, ScriptKind::Limit(limit), told)?;
     }
     Ok(())
 }

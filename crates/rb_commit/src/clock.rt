@@ -66,6 +66,14 @@ impl Clock {
         Some(closed)
     }
 
+    /// The number that the next transaction will have, where there is one.
+    pub fn next_transid(&self) -> Option<u64>
+        ensures none { IsNone result ↔ (self.now.drawn ≡ 2 ^ 64 - 1) }
+        ensures some { IfSome result (λ transid. transid ≡ self.now.drawn + 1) }
+    {
+        self.drawn.checked_add(1)
+    }
+
     /// The number of the next transaction, from 1. After the greatest number the answer is `None` and nothing changes.
     pub fn draw(&mut self) -> Option<u64>
         ensures none { IsNone result ↔ (self.old.drawn ≡ 2 ^ 64 - 1) }

@@ -31,15 +31,15 @@ done_more P now at new within here done k d below = go (cases_eq at k)
 
 -- a buffer with one change more
 pub holds_one : (old new : BucketBuffer) (epoch bucket : ℕ) (change : Change) (kept : Kept) → HoldsAll old kept →
-    ((e b : ℕ) → node.changes_kept new e b ≡ node.with_change epoch bucket change (node.changes_kept old) e b) → node.closes_kept new ≡ node.closes_kept old → HoldsAll new (with_one epoch bucket change kept)
-holds_one old new epoch bucket change kept holds added closes =
-    (λ e b. added e b ∙ ap (λ (changes : List Change). if (epoch == e) && (bucket == b) then changes ++ change ∷ [] else changes) (holds.0 e b), closes ∙ holds.1)
+    ((e b : ℕ) → node.changes_kept new e b ≡ node.with_change epoch bucket change (node.changes_kept old) e b) → node.closes_kept new ≡ node.closes_kept old → node.since_of new ≡ node.since_of old → HoldsAll new (with_one epoch bucket change kept)
+holds_one old new epoch bucket change kept holds added closes since =
+    (λ e b. added e b ∙ ap (λ (changes : List Change). if (epoch == e) && (bucket == b) then changes ++ change ∷ [] else changes) (holds.0 e b), closes ∙ holds.1, since ∙ holds.2)
 
 -- a buffer that knows of one close more
 pub holds_close : (old new : BucketBuffer) (epoch prev : ℕ) (kept : Kept) → HoldsAll old kept →
-    ((e b : ℕ) → node.changes_kept new e b ≡ node.changes_kept old e b) → node.closes_kept new ≡ node.closes_kept old ++ (epoch, prev) ∷ [] → HoldsAll new (with_close epoch prev kept)
-holds_close old new epoch prev kept holds same closed =
-    (λ e b. same e b ∙ holds.0 e b, closed ∙ ap (λ (closes : List (ℕ × ℕ)). closes ++ (epoch, prev) ∷ []) holds.1)
+    ((e b : ℕ) → node.changes_kept new e b ≡ node.changes_kept old e b) → node.closes_kept new ≡ node.closes_kept old ++ (epoch, prev) ∷ [] → node.since_of new ≡ node.since_of old → HoldsAll new (with_close epoch prev kept)
+holds_close old new epoch prev kept holds same closed since =
+    (λ e b. same e b ∙ holds.0 e b, closed ∙ ap (λ (closes : List (ℕ × ℕ)). closes ++ (epoch, prev) ∷ []) holds.1, since ∙ holds.2)
 
 -- one buffer more is changed as each is to be
 pub one_more : (P Q : BucketBuffer → Type 0) (first now : List BucketBuffer) (at : ℕ) (old new : BucketBuffer) → at < length now → length now ≡ length first → old ≡ get_or now at old →

@@ -5,20 +5,23 @@ use Rattle.rb_base.specs.declared.change.Change.{Change}
 use Rattle.rb_bucket.specs.Bucket as node
 use Rattle.rb_bucket.specs.declared.bucket.BucketBuffer.{BucketBuffer}
 
--- the open epoch, the changes of each bucket in each epoch, in order, and the closed epochs, each with the one that was closed
--- before it, the oldest first
+-- the open epoch, the first epoch that the nodes buffered, the changes of each bucket in each epoch, in order, and the closed
+-- epochs, each with the one that was closed before it, the oldest first
 pub record Kept : Type 0 where
   pub opened : ℕ
+  pub since : ℕ
   pub changes : (epoch bucket : ℕ) → List Change
   pub closes : List (ℕ × ℕ)
 
 -- a buffer holds all of it
 abbrev pub HoldsAll : BucketBuffer → Kept → Type 0
-HoldsAll buffer kept = ((e b : ℕ) → node.changes_kept buffer e b ≡ kept.changes e b) × (node.closes_kept buffer ≡ kept.closes)
+HoldsAll buffer kept =
+    ((e b : ℕ) → node.changes_kept buffer e b ≡ kept.changes e b) × (node.closes_kept buffer ≡ kept.closes)
+    × (node.since_of buffer ≡ kept.since)
 
 -- nothing yet
 abbrev pub nothing_kept : (opened : ℕ) → Kept
-nothing_kept opened = record { opened = opened; changes = λ epoch bucket. []; closes = [] }
+nothing_kept opened = record { opened = opened; since = opened; changes = λ epoch bucket. []; closes = [] }
 
 -- one change more of a bucket in an epoch
 abbrev pub with_one : (epoch bucket : ℕ) → Change → Kept → Kept

@@ -28,7 +28,7 @@ impl Group {
     pub fn new(alloc: Global, first: u32, nodes: u32, opened: Epoch) -> Result<Group, NoMemory>
         requires some { 1 ≤ nodes }
         requires fits { first + nodes ≤ 2 ^ 32 }
-        ensures keeps { IfOk result (λ group. Keeps group (record { opened = opened.0; changes = λ epoch bucket. []; closes = [] })) }
+        ensures keeps { IfOk result (λ group. Keeps group (nothing_kept opened.0)) }
         ensures buckets { IfOk result (λ group. (bucket : ℕ) → first ≤ bucket → bucket < first + nodes → IsBucketOf group bucket) }
         ensures numbers { IfOk result (λ group. buckets_of group ≡ buckets_from first nodes) }
         ensures count { IfOk result (λ group. length (buffers_of group) ≡ nodes) }

@@ -1,37 +1,38 @@
--- How a run grows: its log only gets longer, and its counts are bounded by its steps.
-use Rattle.std.proofs.Common.{◌≡◌, ◌≤◌, ◌<◌, ℕ, ◌+◌, Bool, true, false, cond, List, [], ◌∷◌, ◌++◌, length, take, drop, fold, sym, ap, subst, ◌∙◌, arith, append_assoc}
-use Rattle.std.specs.Prelude.{if◌then◌else◌, is_some, count_by}
-use Rattle.std.specs.List.{AllByRecursion}
-use Rattle.std.proofs.lemmas.List.Sums.{fold-append, sum_by-cons, sum_by-append}
-use Rattle.std.proofs.lemmas.List.{append-nil, take-append-le, take-append-drop, take_all, length-append}
-use Rattle.rb_base.specs.declared.site.SiteId.TheVariants.{A}
+-- How a run grows: what holds of a site goes on to hold, and its log only gets longer.
+use Rattle.std.proofs.Common.{◌≡◌, ℕ, zero, suc, ◌+◌, ◌<◌, ◌≤◌, Bool, List, [], ◌∷◌, ◌++◌, length, take, drop, fold, refl, sym, ap, subst, ◌∙◌, arith, append_assoc}
+use Rattle.std.specs.Prelude.{Option, Some, None}
+use Rattle.std.specs.List.{slice_get}
+use Rattle.std.specs.Option.{option_map_or}
+use Rattle.std.proofs.lemmas.List.{append-nil, take-append-le, take-append-drop, length-map}
+use Rattle.std.proofs.lemmas.List.Sums.{fold-append}
+use Rattle.rb_base.specs.declared.message.Sent.{Sent}
+use Rattle.rb_base.specs.declared.outcome.Outcome.TheVariants as outcomes
 use Rattle.rb_base.specs.declared.body.EpochBody.{EpochBody}
-use Rattle.rb_text_defs.specs.declared.script.Step.{Step}
-use Rattle.rb_text_defs.specs.declared.script.Step.TheVariants.{Insert, Close, Log}
-use Rattle.rb_text_defs.specs.Script.{is_insert}
-use Rattle.rb_journal_defs.specs.Journal.{Client, Closed, row_at, closed_epochs}
-use Rattle.rb_journal_defs.specs.Body.{Shape, body_of, completed_bodies, logged_bodies}
+use Rattle.rb_base.specs.declared.script.ClientOp.{ClientOp}
+use Rattle.rb_base.specs.declared.script.Event.{Event}
+use Rattle.rb_base.specs.declared.script.Event.TheVariants as events
+use Rattle.rb_text_defs.specs.declared.script.LinedEvent.{LinedEvent}
+use Rattle.rb_journal_defs.specs.Body.{Shape, body_of, completed_bodies}
+use Rattle.rb_journal_defs.specs.Transaction.{Refusal, refusal_of}
 use Rattle.rb_journal_defs.proofs.Bodies.{if_logged, completed_client, completed_closed}
-use Rattle.rb_play_defs.specs.Play.{Progress, beginning, inserted, happens}
-
--- the closed epochs are below the open one, and no more bodies are written than there are
-pub record IsOrdered (shape : Shape) (run : Progress) : Type 0 where
-  pub below : AllByRecursion (λ epoch. epoch < run.opened) (closed_epochs run.journal)
-  pub written : run.written ≤ length (completed_bodies shape run.journal)
-
--- the bodies that are written
-abbrev pub logged : Shape → Progress → List EpochBody
-logged shape run = logged_bodies shape run.written run.journal
+use Rattle.rb_message_defs.specs.Received.{answer_to}
+use Rattle.rb_play_defs.specs.Step.{Progress, unchanged, refused, rows_of, tx_changes, committed, commit_outcome, tx_step, closed, close_step, fed_by, delivered_message, answer_outcome, deliver_step, undelivered, after_delivery, all_delivered, delivery_of_all, deliver_all_step, takeable, injected, injection_of, inject_step, site_step, written_bodies, with_taken}
+use Rattle.rb_play_defs.specs.Sound.{IsSound}
+use Rattle.rb_play_defs.specs.declared.event.SiteEvent.{SiteEvent}
+use Rattle.rb_play_defs.specs.declared.event.SiteEvent.TheVariants as happenings
+use Rattle.rb_play_defs.specs.Play.{log_step, event_step, Played, played_on, not_played, play_of}
+use Rattle.rb_play_defs.proofs.Sounds.{closed_all_below, sound_beginning, sound_commit, sound_close}
+use Rattle.rb_play_defs.proofs.Takes.{sound_delivered, sound_taken, takeable_rest, injected_more, injected_end, written_is, written_more}
 
 -- these begin with those
 pub record Begins (first whole : List EpochBody) : Type 0 where
   pub rest : List EpochBody
   pub whole_is : whole ≡ first ++ rest
 
-begins_self : (bodies : List EpochBody) → Begins bodies bodies
+pub begins_self : (bodies : List EpochBody) → Begins bodies bodies
 begins_self bodies = record { rest = []; whole_is = sym (append-nil bodies) }
 
-begins_then : (a b c : List EpochBody) → Begins a b → Begins b c → Begins a c
+pub begins_then : (a b c : List EpochBody) → Begins a b → Begins b c → Begins a c
 begins_then a b c first second = record {
   rest = first.rest ++ second.rest;
   whole_is = second.whole_is ∙ ap (λ (bs : List EpochBody). bs ++ second.rest) first.whole_is ∙ append_assoc a first.rest second.rest;
@@ -40,100 +41,128 @@ begins_then a b c first second = record {
 begins_same : (a b : List EpochBody) → b ≡ a → Begins a b
 begins_same a b same = subst (Begins a) (sym same) (begins_self a)
 
-record Goes (shape : Shape) (run next : Progress) : Type 0 where
-  ordered : IsOrdered shape next
-  grows : Begins (logged shape run) (logged shape next)
+-- what an event leaves
+pub record Goes (shape : Shape) (run next : Progress) : Type 0 where
+  pub sound : IsSound shape next
+  pub grows : Begins (written_bodies shape run) (written_bodies shape next)
 
-below_more : (opened : ℕ) (epochs : List ℕ) → AllByRecursion (λ epoch. epoch < opened) epochs → AllByRecursion (λ epoch. epoch < opened + 1) (epochs ++ opened ∷ [])
-below_more opened [] below = (omega arith, tt)
-below_more opened (epoch ∷ epochs) below = let h : epoch < opened = below.0 in (omega arith, below_more opened epochs below.1)
+goes_self : (shape : Shape) (run : Progress) → IsSound shape run → Goes shape run run
+goes_self shape run sound = record { sound = sound; grows = begins_self (written_bodies shape run) }
 
-goes_insert : (shape : Shape) (run : Progress) (key value : ℕ) → IsOrdered shape run → Goes shape run (happens shape run (Insert key value))
-unfolding happens
-goes_insert shape run key value ordered = go (is_some (row_at A 1 key run.journal))
+goes_then : (shape : Shape) (a b c : Progress) → Goes shape a b → Goes shape b c → Goes shape a c
+goes_then shape a b c first second = record { sound = second.sound; grows = begins_then (written_bodies shape a) (written_bodies shape b) (written_bodies shape c) first.grows second.grows }
+
+-- no more bodies are written than there are
+pub written_within : (shape : Shape) (run : Progress) → IsSound shape run → run.written ≤ length (completed_bodies shape run.journal)
+written_within shape run sound = length_of_take run.written (completed_bodies shape run.journal) (ap length (written_is shape run sound) ∙ length-map _ _ ∙ sym sound.written)
   where
-    go : (there : Bool) → Goes shape run (if there then run else record run { journal = Client run.opened (run.drawn + 1) (inserted key value (run.drawn + 1) ∷ []) ∷ run.journal; drawn = run.drawn + 1 })
-    go true = record { ordered = ordered; grows = begins_self (logged shape run) }
-    go false =
-        let same = completed_client shape run.opened (run.drawn + 1) (inserted key value (run.drawn + 1) ∷ []) run.journal ordered.below in
-        record {
-          ordered = record { below = ordered.below; written = let n = ap length same in let h = ordered.written in omega arith };
-          grows = begins_same (logged shape run) (take run.written (completed_bodies shape (Client run.opened (run.drawn + 1) (inserted key value (run.drawn + 1) ∷ []) ∷ run.journal))) (ap (take run.written) same);
-        }
+    length_of_take : (n : ℕ) (xs : List EpochBody) → length (take n xs) ≡ n → n ≤ length xs
+    length_of_take zero xs same = omega arith
+    length_of_take (suc n) [] same = absurd (omega arith)
+    length_of_take (suc n) (x ∷ xs) same = let h : n ≤ length xs = length_of_take n xs (let s = same in omega arith) in omega arith
 
-goes_close : (shape : Shape) (run : Progress) → IsOrdered shape run → Goes shape run (happens shape run Close)
-unfolding happens
-goes_close shape run ordered =
-    let more = completed_closed shape run.opened run.journal in
-    let longer = ap length more ∙ length-append (completed_bodies shape run.journal) (if_logged (body_of shape run.opened run.journal)) in
-    record {
-      ordered = record { below = below_more run.opened (closed_epochs run.journal) ordered.below; written = let h = ordered.written in omega arith };
-      grows = begins_same (logged shape run) (take run.written (completed_bodies shape (Closed run.opened ∷ run.journal)))
-          (ap (take run.written) more ∙ take-append-le run.written (completed_bodies shape run.journal) (if_logged (body_of shape run.opened run.journal)) ordered.written);
-    }
-
-goes_log : (shape : Shape) (run : Progress) → IsOrdered shape run → Goes shape run (happens shape run Log)
-unfolding happens
-goes_log shape run ordered = record {
-  ordered = record { below = ordered.below; written = omega arith };
-  grows = record {
-    rest = drop run.written (completed_bodies shape run.journal);
-    whole_is = take_all (length (completed_bodies shape run.journal)) (completed_bodies shape run.journal) (omega arith) ∙ sym (take-append-drop run.written (completed_bodies shape run.journal));
-  };
+goes_commit : (shape : Shape) (operations : List ClientOp) (run : Progress) → IsSound shape run → Goes shape run (committed shape operations run)
+goes_commit shape operations run sound = record {
+  sound = sound_commit shape operations run sound;
+  grows = begins_same (written_bodies shape run) (written_bodies shape (committed shape operations run))
+      (ap (take run.written) (completed_client shape run.opened (run.drawn + 1) (tx_changes shape operations run) run.journal (closed_all_below run.opened run.journal sound.order)));
 }
 
-goes : (shape : Shape) (run : Progress) (step : Step) → IsOrdered shape run → Goes shape run (happens shape run step)
-goes shape run (Insert key value) ordered = goes_insert shape run key value ordered
-goes shape run Close ordered = goes_close shape run ordered
-goes shape run Log ordered = goes_log shape run ordered
-
--- a step and those after it
-pub ordered_more : (shape : Shape) (run : Progress) (step : Step) → IsOrdered shape run → IsOrdered shape (happens shape run step)
-ordered_more shape run step ordered = (goes shape run step ordered).ordered
-
-pub logged_grows : (shape : Shape) (run : Progress) (steps : List Step) → IsOrdered shape run → Begins (logged shape run) (logged shape (fold (happens shape) run steps))
-logged_grows shape run [] ordered = begins_self (logged shape run)
-logged_grows shape run (step ∷ steps) ordered =
-    begins_then (logged shape run) (logged shape (happens shape run step)) (logged shape (fold (happens shape) run (step ∷ steps)))
-    (goes shape run step ordered).grows (logged_grows shape (happens shape run step) steps (ordered_more shape run step ordered))
-
--- transactions are numbered by inserts alone, and epochs by closes
-pub record Counts (run next : Progress) (inserts steps : ℕ) : Type 0 where
-  pub drawn : next.drawn ≤ run.drawn + inserts
-  pub opened : next.opened ≤ run.opened + steps
-
-one_counts : (shape : Shape) (run : Progress) (step : Step) → Counts run (happens shape run step) (cond (is_insert step) 1 0) 1
-unfolding happens
-one_counts shape run (Insert key value) = go (is_some (row_at A 1 key run.journal))
+goes_tx : (shape : Shape) (operations : List ClientOp) (run : Progress) → IsSound shape run → Goes shape run (tx_step shape operations run).run
+unfolding tx_step
+goes_tx shape operations run sound = go (refusal_of (rows_of shape run) operations)
   where
-    go : (there : Bool) → Counts run (if there then run else record run { journal = Client run.opened (run.drawn + 1) (inserted key value (run.drawn + 1) ∷ []) ∷ run.journal; drawn = run.drawn + 1 }) 1 1
-    go true = record { drawn = omega arith; opened = omega arith }
-    go false = record { drawn = omega arith; opened = omega arith }
-one_counts shape run Close = record { drawn = omega arith; opened = omega arith }
-one_counts shape run Log = record { drawn = omega arith; opened = omega arith }
+    go : (x : Option Refusal) → Goes shape run (option_map_or (λ refusal. unchanged run (refused refusal)) x (record { run = committed shape operations run; outcome = commit_outcome (committed shape operations run) })).run
+    go None = goes_commit shape operations run sound
+    go (Some refusal) = goes_self shape run sound
 
-counts_then : (shape : Shape) (run : Progress) (step : Step) (steps : List Step) → Counts run (happens shape run step) (cond (is_insert step) 1 0) 1 → Counts (happens shape run step) (fold (happens shape) (happens shape run step) steps) (count_by is_insert steps) (length steps) → Counts run (fold (happens shape) run (step ∷ steps)) (count_by is_insert (step ∷ steps)) (length (step ∷ steps))
-counts_then shape run step steps first later =
-    let count : count_by is_insert (step ∷ steps) ≡ cond (is_insert step) 1 0 + count_by is_insert steps = sum_by-cons (λ (s : Step). cond (is_insert s) 1 0) step steps in
-    record {
-      drawn = let h = first.drawn in let k = later.drawn in omega arith;
-      opened = let h = first.opened in let k = later.opened in omega arith;
+goes_close : (shape : Shape) (gci : Bool) (run : Progress) → IsSound shape run → Goes shape run (closed shape gci run)
+goes_close shape gci run sound =
+    let more = completed_closed shape run.opened run.journal in record {
+      sound = sound_close shape gci run sound;
+      grows = begins_same (written_bodies shape run) (written_bodies shape (closed shape gci run))
+          (ap (take run.written) more ∙ take-append-le run.written (completed_bodies shape run.journal) (if_logged (body_of shape run.opened run.journal)) (written_within shape run sound));
     }
 
-pub counted : (shape : Shape) (run : Progress) (steps : List Step) → Counts run (fold (happens shape) run steps) (count_by is_insert steps) (length steps)
-counted shape run [] = record { drawn = omega arith; opened = omega arith }
-counted shape run (step ∷ steps) = counts_then shape run step steps (one_counts shape run step) (counted shape (happens shape run step) steps)
+goes_deliver : (shape : Shape) (place : ℕ) (run : Progress) → IsSound shape run → Goes shape run (deliver_step shape place run).run
+unfolding deliver_step
+goes_deliver shape place run sound = go (slice_get run.sent place) refl
+  where
+    go : (x : Option Sent) → slice_get run.sent place ≡ x → Goes shape run (option_map_or (λ sent. record { run = delivered_message place sent.message run; outcome = answer_outcome (answer_to (fed_by shape run) sent.message) }) x (unchanged run (outcomes.NoMessage place (length run.sent)))).run
+    go None q = goes_self shape run sound
+    go (Some sent) q = record { sound = sound_delivered shape place run sent sound q; grows = begins_self (written_bodies shape run) }
 
--- the inserts in a front of the steps are some of them
-pub count_front : (steps : List Step) (i : ℕ) → count_by is_insert (take i steps) ≤ count_by is_insert steps
-count_front steps i =
-    let parts : count_by is_insert (take i steps ++ drop i steps) ≡ count_by is_insert (take i steps) + count_by is_insert (drop i steps) = sum_by-append (λ (s : Step). cond (is_insert s) 1 0) (take i steps) (drop i steps) in
-    let whole : count_by is_insert (take i steps ++ drop i steps) ≡ count_by is_insert steps = ap (count_by is_insert) (take-append-drop i steps) in
-    omega arith
+goes_all : (shape : Shape) (places : List ℕ) (run : Progress) → IsSound shape run → Goes shape run (all_delivered shape places run)
+goes_all shape [] run sound = goes_self shape run sound
+goes_all shape (place ∷ places) run sound =
+    let one = goes_deliver shape place run sound in
+    goes_then shape run (after_delivery shape run place) (all_delivered shape (place ∷ places) run) one (goes_all shape places (after_delivery shape run place) one.sound)
 
-pub beginning_ordered : (shape : Shape) → IsOrdered shape beginning
-beginning_ordered shape = record { below = tt; written = omega arith }
+pub goes_delivery : (shape : Shape) (run : Progress) → IsSound shape run → Goes shape run (delivery_of_all shape run).run
+unfolding delivery_of_all
+goes_delivery shape run sound = goes_all shape (undelivered run) run sound
 
--- the steps after a front of them
-pub run_on : (shape : Shape) (steps : List Step) (i : ℕ) → fold (happens shape) (fold (happens shape) beginning (take i steps)) (drop i steps) ≡ fold (happens shape) beginning steps
-run_on shape steps i = sym (fold-append (happens shape) beginning (take i steps) (drop i steps)) ∙ ap (fold (happens shape) beginning) (take-append-drop i steps)
+pub goes_taken : (shape : Shape) (run : Progress) (es : List ℕ) → IsSound shape run → takeable shape run ≡ es → Goes shape run (injected shape run)
+goes_taken shape run [] sound same = subst (Goes shape run) (sym (injected_end shape run same)) (goes_self shape run sound)
+goes_taken shape run (e ∷ rest) sound same =
+    let next = sound_taken shape run e rest sound same in
+    let one : Goes shape run (with_taken shape run e) = record { sound = next; grows = record { rest = if_logged (body_of shape e run.journal); whole_is = written_more shape run e rest sound same } } in
+    subst (Goes shape run) (sym (injected_more shape run e rest sound same))
+    (goes_then shape run (with_taken shape run e) (injected shape (with_taken shape run e)) one (goes_taken shape (with_taken shape run e) rest next (takeable_rest shape run e rest sound same)))
+
+pub goes_injection : (shape : Shape) (run : Progress) → IsSound shape run → Goes shape run (injection_of shape run).run
+unfolding injection_of
+goes_injection shape run sound = goes_taken shape run (takeable shape run) sound refl
+
+-- an event at a site
+pub goes_site : (shape : Shape) (run : Progress) (event : SiteEvent) → IsSound shape run → Goes shape run (site_step shape run event).run
+unfolding site_step close_step deliver_all_step inject_step
+goes_site shape run (happenings.Tx operations) sound = goes_tx shape operations run sound
+goes_site shape run (happenings.Close gci) sound = goes_close shape gci run sound
+goes_site shape run (happenings.Deliver place) sound = goes_deliver shape place run sound
+goes_site shape run happenings.DeliverAll sound = goes_delivery shape run sound
+goes_site shape run happenings.Inject sound = goes_injection shape run sound
+
+goes_log : (shape : Shape) (run : Progress) → IsSound shape run → Goes shape run (log_step shape run).run
+unfolding log_step
+goes_log shape run sound =
+    let first = goes_delivery shape run sound in
+    goes_then shape run (delivery_of_all shape run).run (injection_of shape (delivery_of_all shape run).run).run first (goes_injection shape (delivery_of_all shape run).run first.sound)
+
+-- an event of a script
+pub goes : (shape : Shape) (run : Progress) (event : Event) → IsSound shape run → Goes shape run (event_step shape run event).run
+unfolding event_step close_step deliver_all_step inject_step
+goes shape run (events.Tx site operations) sound = goes_tx shape operations run sound
+goes shape run (events.Close site gci) sound = goes_close shape gci run sound
+goes shape run (events.Deliver site place) sound = goes_deliver shape place run sound
+goes shape run (events.DeliverAll site) sound = goes_delivery shape run sound
+goes shape run (events.Inject site) sound = goes_injection shape run sound
+goes shape run (events.Log site) sound = goes_log shape run sound
+goes shape run (events.Fail site node) sound = goes_self shape run sound
+goes shape run (events.Restart site node) sound = goes_self shape run sound
+goes shape run (events.Resend site) sound = goes_self shape run sound
+goes shape run (events.Injector site) sound = goes_self shape run sound
+goes shape run (events.Piece site file position count) sound = goes_self shape run sound
+goes shape run (events.Pull site) sound = goes_self shape run sound
+goes shape run (events.Apply site) sound = goes_self shape run sound
+goes shape run (events.Flow site) sound = goes_self shape run sound
+goes shape run (events.Applier site) sound = goes_self shape run sound
+goes shape run (events.Dump site) sound = goes_self shape run sound
+goes shape run events.Drain sound = goes_self shape run sound
+
+-- more events
+pub goes_on : (shape : Shape) (played : Played) (lined : List LinedEvent) → IsSound shape played.run → Goes shape played.run (fold (played_on shape) played lined).run
+goes_on shape played [] sound = goes_self shape played.run sound
+goes_on shape played (event ∷ later) sound =
+    let one = goes shape played.run event.event sound in
+    goes_then shape played.run (played_on shape played event).run (fold (played_on shape) played (event ∷ later)).run one (goes_on shape (played_on shape played event) later one.sound)
+
+-- the events behind a front of them
+pub played_rest : (shape : Shape) (lined : List LinedEvent) (i : ℕ) → fold (played_on shape) (play_of shape (take i lined)) (drop i lined) ≡ play_of shape lined
+unfolding play_of
+played_rest shape lined i = sym (fold-append (played_on shape) not_played (take i lined) (drop i lined)) ∙ ap (fold (played_on shape) not_played) (take-append-drop i lined)
+
+-- a front of a run is sound
+pub sound_front : (shape : Shape) (lined : List LinedEvent) (i : ℕ) → 0 < shape.buckets → IsSound shape (play_of shape (take i lined)).run
+unfolding play_of
+sound_front shape lined i some = (goes_on shape not_played (take i lined) (sound_beginning shape some)).sound

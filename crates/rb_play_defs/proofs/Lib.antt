@@ -1,1 +1,6 @@
+pub mod Sounds
+pub mod Takes
 pub mod Grows
+pub mod Fits
+pub mod Counts
+pub mod Tables

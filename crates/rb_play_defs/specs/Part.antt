@@ -4,7 +4,7 @@ use Rattle.rb_base.specs.declared.site.SiteId.TheVariants.{A}
 use Rattle.rb_base.specs.declared.body.EpochBody.{EpochBody}
 use Rattle.rb_log_defs.specs.Epoch.{epoch_bytes}
 use Rattle.rb_log_defs.specs.File.{file_start, binlog_files}
-use Rattle.rb_play_defs.specs.Play.{default_limit}
+use Rattle.rb_text_defs.specs.Script.{default_limit}
 
 -- this one file is site A's whole log of these bodies
 abbrev pub IsLogOf : List EpochBody → (file : List ℕ) → Type 0

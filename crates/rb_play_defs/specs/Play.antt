@@ -1,92 +1,99 @@
--- The run of a script over one site, and what it leaves.
-use Rattle.std.specs.Prelude.{ℕ, ◌+◌, ◌^◌, if◌then◌else◌, List, [], ◌∷◌, length, fold, map, Option, Some, None, is_some, unwrap_or}
-use Rattle.std.specs.List.{last_or}
+-- The run of a script over site A, and what it leaves.
+use Rattle.std.specs.Prelude.{ℕ, ◌*◌, List, [], ◌∷◌, ◌++◌, length, fold, map}
+use Rattle.std.specs.List.{enumerate_from}
 use Rattle.rb_base.specs.declared.site.SiteId.TheVariants.{A}
-use Rattle.rb_base.specs.declared.schema.Column.TheVariants.{Num}
-use Rattle.rb_base.specs.declared.schema.Mapped.{Mapped}
-use Rattle.rb_base.specs.declared.row.Value.TheVariants as values
-use Rattle.rb_base.specs.declared.change.Kind.TheVariants as kinds
-use Rattle.rb_base.specs.declared.change.Change.{Change}
+use Rattle.rb_base.specs.declared.schema.Schema.{Schema}
 use Rattle.rb_base.specs.declared.body.EpochBody.{EpochBody}
-use Rattle.rb_text_defs.specs.declared.script.Step.{Step}
-use Rattle.rb_text_defs.specs.declared.script.Step.TheVariants.{Insert, Close, Log}
+use Rattle.rb_base.specs.declared.script.Event.{Event}
+use Rattle.rb_base.specs.declared.script.Event.TheVariants as events
+use Rattle.rb_base.specs.declared.script.Setup.{Setup}
+use Rattle.rb_base.specs.declared.outcome.Outcome.{Outcome}
+use Rattle.rb_base.specs.declared.outcome.Outcome.TheVariants as outcomes
+use Rattle.rb_text_defs.specs.declared.script.LinedEvent.{LinedEvent}
 use Rattle.rb_text_defs.specs.declared.script.Script.{Script}
-use Rattle.rb_text_defs.specs.Report.{report_text}
+use Rattle.rb_text_defs.specs.Report.{NamedRows, LogCounts, report_text}
 use Rattle.rb_log_defs.specs.File.{binlog_files}
-use Rattle.rb_journal_defs.specs.Journal.{Client, Closed, Journal, row_at}
-use Rattle.rb_journal_defs.specs.Body.{Shape, mapped_tables, completed_bodies, logged_bodies}
+use Rattle.rb_journal_defs.specs.Journal.{Journal}
+use Rattle.rb_journal_defs.specs.Body.{Shape, mapped_tables}
+use Rattle.rb_journal_defs.specs.Table.{rows_of_table}
+use Rattle.rb_play_defs.specs.Step.{Progress, beginning, Stepped, unchanged, Answers, Injection, delivery_of_all, injection_of, tx_step, close_step, deliver_step, deliver_all_step, inject_step, last_epoch, written_bodies}
 
--- the first open epoch: micro GCI 0 of GCI 1
-abbrev pub first_epoch : ℕ
-first_epoch = 2 ^ 32
+-- site A of a script
+abbrev pub shape_of : Setup → Shape
+shape_of setup = record { site = A; buckets = setup.a.groups * setup.a.replicas; tables = mapped_tables setup.tables }
 
--- the length from which a binlog file is rotated
-abbrev pub default_limit : ℕ
-default_limit = 1048576
+-- the answer to `log`: that of the delivery of all messages, and that of the injector's turn behind it
+abbrev pub log_outcome : Answers → Injection → Outcome
+log_outcome answers injection =
+    outcomes.Logged answers.kept answers.known answers.old injection.count (record { 0 = injection.written })
+    injection.missing.bucket injection.missing.place
 
--- a site within a run: its journal, its open epoch, how many transactions it has numbered, and how many bodies are written
-pub record Progress : Type 0 where
-  pub journal : Journal
-  pub opened : ℕ
-  pub drawn : ℕ
-  pub written : ℕ
+-- `log`: every message that was never delivered is, and then the injector has its turn
+unfoldable pub log_step : Shape → Progress → Stepped
+log_step shape run =
+    let delivery = delivery_of_all shape run in
+    let injection = injection_of shape delivery.run in
+    record { run = injection.run; outcome = log_outcome delivery.answers injection }
 
--- a site at the start
-abbrev pub beginning : Progress
-beginning = record { journal = []; opened = first_epoch; drawn = 0; written = 0 }
+-- an event of a script; those that do not run yet do nothing
+unfoldable pub event_step : Shape → Progress → Event → Stepped
+event_step shape run (events.Tx site operations) = tx_step shape operations run
+event_step shape run (events.Close site gci) = close_step shape gci run
+event_step shape run (events.Deliver site place) = deliver_step shape place run
+event_step shape run (events.DeliverAll site) = deliver_all_step shape run
+event_step shape run (events.Inject site) = inject_step shape run
+event_step shape run (events.Log site) = log_step shape run
+event_step shape run event = unchanged run outcomes.Nothing
 
--- the insert of a row in the script's table by a client of site A
-abbrev pub inserted : (key value transid : ℕ) → Change
-inserted key value transid = record {
-  table = 1;
-  key = key;
-  kind = kinds.Insert;
-  before = None;
-  after = Some (record { values = values.Num key ∷ values.Num value ∷ [] });
-  author = 1;
-  transid = transid;
-}
+-- where a script has come, and what each event answered
+pub record Played : Type 0 where
+  pub run : Progress
+  pub outcomes : List (ℕ × Outcome)
 
--- a client's transaction that inserts a row: it is refused, and changes nothing, where the key is there
-abbrev pub with_insert : (key value : ℕ) → Progress → Progress
-with_insert key value site =
-    if is_some (row_at A 1 key site.journal) then site
-    else record site {
-      journal = Client site.opened (site.drawn + 1) (inserted key value (site.drawn + 1) ∷ []) ∷ site.journal;
-      drawn = site.drawn + 1;
-    }
+-- the answer of an event more
+abbrev pub with_step : (line : ℕ) → Played → Stepped → Played
+with_step line played step = record { run = step.run; outcomes = played.outcomes ++ (line, step.outcome) ∷ [] }
 
--- what a step does
-unfoldable pub happens : Shape → Progress → Step → Progress
-happens shape site (Insert key value) = with_insert key value site
-happens shape site Close = record site { journal = Closed site.opened ∷ site.journal; opened = site.opened + 1 }
-happens shape site Log = record site { written = length (completed_bodies shape site.journal) }
+-- an event more
+abbrev pub played_on : Shape → Played → LinedEvent → Played
+played_on shape played lined = with_step lined.line played (event_step shape played.run lined.event)
 
--- the table of a script, one column of numbers behind the key
-abbrev pub tables_of : Option (List ℕ) → List Mapped
-tables_of None = []
-tables_of (Some name) = mapped_tables (record { name = name; columns = Num ∷ [] } ∷ [])
+-- a script at its start
+abbrev pub not_played : Played
+not_played = record { run = beginning; outcomes = [] }
 
--- site A in a run of a script: one bucket
-abbrev pub shape_of : Script → Shape
-shape_of script = record { site = A; buckets = 1; tables = tables_of script.table }
+-- these events played in turn
+unfoldable pub play_of : Shape → List LinedEvent → Played
+play_of shape events = fold (played_on shape) not_played events
 
--- where the run of a script ends
-unfoldable pub play : Script → Progress
-play script = fold (happens (shape_of script)) beginning script.steps
+-- a script, played to its end
+abbrev pub play : Script → Played
+play script = play_of (shape_of script.setup) script.events
 
--- the bodies that site A has logged then
+-- the bodies that site A has written then
 abbrev pub log_of : Script → List EpochBody
-log_of script = logged_bodies (shape_of script) (play script).written (play script).journal
-
--- the epoch of the last body, or 0
-abbrev pub last_epoch : List EpochBody → ℕ
-last_epoch bodies = unwrap_or (last_or None (map (λ body. body.epoch.0) bodies)) 0
+log_of script = written_bodies (shape_of script.setup) (play script).run
 
 -- site A's binlog files then, file 1 first
 abbrev pub files_of : Script → List (List ℕ)
-files_of script = binlog_files A default_limit (log_of script)
+files_of script = binlog_files A script.setup.a.limit (log_of script)
 
--- the report of the run
+-- the tables of a script with the rows that a journal leaves
+abbrev pub tables_left : List Schema → Journal → List NamedRows
+tables_left schemas journal =
+    map (λ numbered. record { name = numbered.1.name; rows = rows_of_table A numbered.0 journal }) (enumerate_from 1 schemas)
+
+-- what a log of these bodies amounts to
+abbrev pub counts_of : (limit : ℕ) → List EpochBody → LogCounts
+counts_of limit bodies =
+    record { files = length (binlog_files A limit bodies); epochs = length bodies; written = last_epoch bodies }
+
+-- the report of a run of this script that has come here
+abbrev pub report_at : Setup → Played → List ℕ
+report_at setup played =
+    report_text played.outcomes (counts_of setup.a.limit (written_bodies (shape_of setup) played.run))
+    (tables_left setup.tables played.run.journal)
+
+-- the report of a script
 unfoldable pub report_of : Script → List ℕ
-report_of script = report_text (length (files_of script)) (length (log_of script)) (last_epoch (log_of script))
+report_of script = report_at script.setup (play script)

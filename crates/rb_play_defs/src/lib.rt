@@ -1,5 +1,11 @@
-//! What a script means: the journal that its steps make, the bodies that are logged, and the report of the run.
+//! What a script means: what its events do at a site, one by one, what they answer, the bodies that are logged, and the
+//! report of the run.
 //!
-//! Definitions in `specs/` over those of the journal, the log and the texts, and laws of them in `proofs/`. The top call
-//! cites them.
+//! Definitions in `specs/` over those of the journal, the messages, the log and the texts, and laws of them in `proofs/`.
+//! The site's step and the top call cite them.
 #![tactic(auto)]
+
+mod event;
+pub mod worked;
+
+pub use event::SiteEvent;

@@ -1,12 +1,17 @@
-//! The printer: it makes the text of the report that a run leaves.
+//! The printer: it makes the texts of the report that a run leaves, piece by piece.
 //!
-//! Its contract is that the text is the one that the definitions give for these numbers. Below it stand the types and the
-//! definition of the report; above it stands the program, which writes the text out.
+//! The contract of each call is that its text is the one that the definitions give: the line of an event with what it did,
+//! the lines of a table, and the line of a log. That the report is its title, these pieces in order and its end is a law in
+//! `proofs/`. Below it stand the types and the definition of the report; above it stands the program, which writes the
+//! pieces out as they are made.
 #![tactic(auto)]
 
-mod report;
+mod lines;
+mod outcome;
+mod put;
+mod value;
 
-pub use report::print_report;
+pub use lines::{print_log, print_outcome, print_table};
 
 #[cfg(test)]
 mod tests;

@@ -1,4 +1,8 @@
-pub mod LineLaws
-pub mod SplitLaws
-pub mod StepLaws
-pub mod WordLaws
+mod SplitLaws
+mod LineLaws
+mod WordLaws
+mod FormLaws
+mod AllOf
+mod TableLaws
+mod TellsLaws
+mod RunLaws

@@ -1,2 +1,3 @@
 pub mod Refused
-pub mod Steps
+pub mod Seen
+pub mod Tells

@@ -1,6 +1,6 @@
 -- What it means that a script is refused.
 use Rattle.std.specs.Prelude.{ℕ, Result, Ok, Err, ⊤}
-use Rattle.rb_script.specs.declared.fault.ScriptKind.{ScriptKind}
+use Rattle.rb_text_defs.specs.declared.script.ScriptKind.{ScriptKind}
 use Rattle.rb_script.specs.declared.fault.ParseFault.{ParseFault}
 use Rattle.rb_script.specs.declared.fault.ParseFault.TheVariants.{Bad, NoMemory}
 

@@ -1,43 +1,42 @@
-ghost use Rattle.std.specs.Prelude.{◌≡◌, ◌<◌, ◌==◌, [], ◌∷◌, length, IfSome, IfNone, option_map, None};
+ghost use Rattle.std.specs.Prelude.{◌≡◌, ◌<◌, ◌==◌, [], ◌∷◌, length, IfNone, IfSome};
+ghost use Rattle.std.specs.Bool.{OnTrue};
 ghost use Rattle.std.specs.Option.{option_map_or};
 ghost use Rattle.std.specs.List.{slice_split};
-ghost use Rattle.rb_text_defs.specs.Words.{lines_of, words_of};
+ghost use Rattle.rb_text_defs.specs.Words.{ends_with, lines_of, without_return};
 
-/// The first line of a text that is not empty, and the text after its line feed. `None` where there is no line feed.
-pub(crate) fn first_line(text: &[u8]) -> Option<(&[u8], &[u8])>
-    ensures some { IfSome result (λ cut. lines_of text.now ≡ option_map (λ lines. cut.0.now ∷ lines) (lines_of cut.1.now)) }
-    ensures none { IfNone result (0 < length text.now → lines_of text.now ≡ None) }
-    ensures shorter { IfSome result (λ cut. length cut.1.now < length text.now) }
+/// The first line of a text that is not empty, without the end of line, and the text after it.
+pub(crate) fn first_line(text: &[u8]) -> (&[u8], &[u8])
+    requires { 0 < length text.now }
+    ensures lines { lines_of text.now ≡ result.0.now ∷ lines_of result.1.now }
+    ensures shorter { length result.1.now < length text.now }
 {
     let (line, rest) = cut(text, b'\n');
     match rest {
-        Some(rest) => Some((line, rest)),
-        None => None,
+        Some(rest) => (without_return(line), rest),
+        None => (without_return(line), &[]),
     }
 }
 
-/// The first word of a line, and what follows the space after it, where there is one.
-#[tactic(auto, unfolding(rb_text_defs::specs::Words::words_of))]
-pub(crate) fn first_word(line: &[u8]) -> (&[u8], Option<&[u8]>)
-    ensures { words_of line.now ≡ result.0.now ∷ option_map_or (λ rest. words_of rest.now) result.1 [] }
+/// A line without a carriage return at its end.
+fn without_return(line: &[u8]) -> &[u8]
+    ensures { result.now ≡ without_return line.now }
 {
-    cut(line, b' ')
+    if ends_with_return(line) {
+        &line[..line.len() - 1]
+    } else {
+        line
+    }
 }
 
-/// The word of a line that has no other.
-#[tactic(auto, using(crate::proofs::WordLaws::some_words))]
-pub(crate) fn only_word(line: &[u8]) -> Option<&[u8]>
-    ensures some { IfSome result (λ word. words_of line.now ≡ word.now ∷ []) }
-    ensures none { IfNone result (1 < length (words_of line.now)) }
+fn ends_with_return(line: &[u8]) -> bool
+    ensures last { result ≡ ends_with (λ byte. byte == 13) line.now }
+    ensures some { OnTrue result (0 < length line.now) }
 {
-    match first_word(line) {
-        (word, None) => Some(word),
-        (_, Some(_)) => None,
-    }
+    !line.is_empty() && line[line.len() - 1] == b'\r'
 }
 
 /// What stands before the first such byte, and what stands after it, where there is one.
-fn cut(text: &[u8], at: u8) -> (&[u8], Option<&[u8]>)
+pub(crate) fn cut(text: &[u8], at: u8) -> (&[u8], Option<&[u8]>)
     ensures split { slice_split (λ byte. byte == at) text.now
         ≡ result.0.now ∷ option_map_or (λ rest. slice_split (λ byte. byte == at) rest.now) result.1 [] }
     ensures all { IfNone result.1 (result.0.now ≡ text.now) }

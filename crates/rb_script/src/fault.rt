@@ -2,21 +2,15 @@ ghost use Rattle.std.specs.Prelude.{◌≡◌};
 ghost use Rattle.rb_script.specs.declared.fault.ParseFault.TheVariants.{NoMemory as OutOfMemory};
 
 use rb_base::NoMemory;
-use std::alloc::AllocError;
-
-/// What is wrong with a script.
-#[derive(Clone, Copy, Debug, PartialEq, Eq)]
-pub enum ScriptKind {
-    /// It is not of the language.
-    Syntax,
-}
+use rb_text_defs::ScriptKind;
+use std::alloc::{AllocError, AllocFailed};
 
 /// Why a script was not read.
 #[derive(Clone, Copy, Debug, PartialEq, Eq)]
 pub enum ParseFault {
-    /// The script is refused. The line is 0, which stands for no line in particular.
+    /// The first line that is refused, counted from 1, and what is wrong with it. Line 0 is the script as a whole.
     Bad { line: u32, kind: ScriptKind },
-    /// There was not enough memory for the steps.
+    /// There was not enough memory for the script, or for the words of a line.
     NoMemory,
 }
 
@@ -32,6 +26,14 @@ impl From<AllocError> for ParseFault {
     ghost from_gives = { λ _ e. e ≡ OutOfMemory };
 
     fn from(_: AllocError) -> Self {
+        ParseFault::NoMemory
+    }
+}
+
+impl<T: Drop> From<AllocFailed<T>> for ParseFault {
+    ghost from_gives = { λ _ e. e ≡ OutOfMemory };
+
+    fn from(_: AllocFailed<T>) -> Self {
         ParseFault::NoMemory
     }
 }

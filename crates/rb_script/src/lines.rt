@@ -1,99 +1,75 @@
-ghost use Rattle.std.specs.Prelude.{◌≡◌, ◌+◌, ◌≤◌, length, count_by, None, Some, IfOk, IfSome, cond};
-ghost use Rattle.rb_script.specs.declared.fault.ScriptKind.TheVariants.{Syntax};
-ghost use Rattle.rb_text_defs.specs.Script.{is_insert, script_of};
+ghost use Rattle.std.specs.Prelude.{◌≡◌, ◌+◌, ◌∷◌, [], ◌++◌, List, Ok, Err, IfOk, None, Some, OnOk};
+ghost use Rattle.rb_text_defs.specs.Form.{Reading as LineReading, reading_of};
+ghost use Rattle.rb_text_defs.specs.Script.{refusal_of_line, script_of};
 ghost use Rattle.rb_script.specs.Refused.{IfBad};
-ghost use Rattle.rb_script.specs.Steps.{rest_of};
+ghost use Rattle.rb_script.specs.Tells.{IsSmall, Tells, forms_of};
 
+use crate::before::Before;
 use crate::cut::first_line;
-use crate::fault::{ParseFault, ScriptKind};
-use crate::words::{step, table_name};
-use rb_base::Bytes;
-use rb_text_defs::{Script, Step, Steps};
+use crate::fault::ParseFault;
+use crate::limit::{MOST_LINES, MOST_SCRIPT_BYTES};
+use crate::reading::{Reading, read_line};
+use rb_text_defs::{Limit, Script, ScriptKind};
 use std::alloc::Global;
 
-/// How many bytes a script has at most.
-pub const MOST_SCRIPT_BYTES: u64 = 33554432;
-
-const MOST_LINES: usize = 100000;
-
-const MOST_INSERTS: u32 = 400;
-
-const BAD: ParseFault = ParseFault::Bad {
-    line: 0,
-    kind: ScriptKind::Syntax,
-};
-
-/// The script in these bytes. `Bad` says that they are no script, and names no line; `NoMemory` that there was not enough
-/// memory for the table's name and the steps, whether or not they are one.
-#[tactic(auto, using(crate::proofs::StepLaws::script_of_empty), unfolding(rb_text_defs::specs::Script::script_of))]
+/// The script in these bytes. `Bad` gives the first line that is refused, counted from 1, and what is wrong with it: it is
+/// of no form, it does not fit the lines before it, or it passes a limit, judged in this order; line 0 with the limit of
+/// bytes says that the script as a whole is too long. `NoMemory` says that there was not enough memory for what the lines
+/// up to there say.
 pub fn parse(alloc: Global, bytes: &[u8]) -> Result<Script, ParseFault>
-    ensures ok { IfOk result (λ script. script_of bytes.now ≡ Some script) }
-    ensures bad { IfBad result (λ line kind. script_of bytes.now ≡ None) }
-    ensures place { IfBad result (λ line kind. (line ≡ 0) × (kind ≡ Syntax)) }
-    ensures few_inserts { IfOk result (λ script. count_by is_insert script.steps ≤ 400) }
-    ensures few_steps { IfOk result (λ script. length script.steps ≤ 100000) }
-    ensures name { IfOk result (λ script. IfSome script.table (λ name. length name ≤ 32)) }
+    ensures ok { IfOk result (λ script. script_of bytes.now ≡ Ok script) }
+    ensures bad { IfBad result (λ line kind. script_of bytes.now ≡ Err (record { line = line; kind = kind })) }
 {
     if bytes.len() as u64 > MOST_SCRIPT_BYTES {
-        return Err(BAD);
-    }
-    if bytes.is_empty() {
-        return Ok(Script {
-            table: None,
-            steps: Steps::new(alloc),
+        return Err(ParseFault::Bad {
+            line: 0,
+            kind: ScriptKind::Limit(Limit::Bytes),
         });
     }
-    let Some((first, later)) = first_line(bytes) else {
-        return Err(BAD);
-    };
-    let Some(name) = table_name(first) else {
-        return Err(BAD);
-    };
-    let steps = steps(alloc, name, later)?;
-    Ok(Script {
-        table: Some(Bytes::from_vec(Vec::from_slice(alloc, name)?)),
-        steps,
-    })
-}
-
-/// The steps that the lines after the first tell, one by one. More than a script may have are refused as soon as they are
-/// there.
-fn steps(alloc: Global, name: &[u8], text: &[u8]) -> Result<Steps, ParseFault>
-    ensures ok { IfOk result (λ steps. rest_of name.now text.now ≡ Some (record { table = Some name.now; steps = steps })) }
-    ensures bad { IfBad result (λ line kind. rest_of name.now text.now ≡ None) }
-    ensures place { IfBad result (λ line kind. (line ≡ 0) × (kind ≡ Syntax)) }
-    ensures few_inserts { IfOk result (λ steps. count_by is_insert steps ≤ 400) }
-    ensures few_steps { IfOk result (λ steps. length steps + 1 ≤ 100000) }
-{
-    let mut steps = Steps::new(alloc);
-    let mut inserts = 0;
-    let mut rest = text;
+    let mut before = Before::new(alloc);
+    let mut rest = bytes;
     while !rest.is_empty() {
-        let Some((line, after)) = first_line(rest) else {
-            return Err(BAD);
-        };
-        let Some(step) = step(name, line) else {
-            return Err(BAD);
-        };
-        inserts += inserts_in(step);
-        steps.push(step)?;
-        if inserts > MOST_INSERTS {
-            return Err(BAD);
-        }
-        if steps.as_slice().len() >= MOST_LINES {
-            return Err(BAD);
-        }
+        let (line, after) = first_line(rest);
+        add_line(alloc, &mut before, line)?;
         rest = after;
     }
-    Ok(steps)
+    Ok(before.into_script())
 }
 
-/// 1 for an insert, else 0.
-fn inserts_in(step: Step) -> u32
-    ensures { result ≡ cond (is_insert step) 1 0 }
+/// Takes in one more line, or says what is wrong with it.
+fn add_line(alloc: Global, before: &mut Before, line: &[u8]) -> Result<(), ParseFault>
+    requires { IsSmall before.old }
+    ensures told { OnOk result ((readings : List LineReading) → Tells readings before.old
+        → Tells (readings ++ reading_of line.now ∷ []) before.new) }
+    ensures fine { OnOk result ((readings : List LineReading) → Tells readings before.old
+        → refusal_of_line (forms_of readings) (before.old.lines + 1) (reading_of line.now) ≡ None) }
+    ensures bad { IfBad result (λ number kind. (readings : List LineReading) → Tells readings before.old
+        → refusal_of_line (forms_of readings) (before.old.lines + 1) (reading_of line.now)
+        ≡ Some (record { line = number; kind = kind })) }
+    ensures lines { OnOk result (before.new.lines ≡ before.old.lines + 1) }
 {
-    match step {
-        Step::Insert { .. } => 1,
-        Step::Close | Step::Log => 0,
+    let number = before.lines + 1;
+    match read_line(alloc, line)? {
+        Reading::Wrong => Err(ParseFault::Bad {
+            line: number,
+            kind: ScriptKind::Syntax,
+        }),
+        Reading::Skipped => {
+            if number > MOST_LINES {
+                return Err(ParseFault::Bad {
+                    line: number,
+                    kind: ScriptKind::Limit(Limit::Lines),
+                });
+            }
+            before.skip();
+            Ok(())
+        }
+        Reading::Says(form) => {
+            if let Some(kind) = before.refusal(&form) {
+                return Err(ParseFault::Bad { line: number, kind });
+            }
+            before.take(alloc, form)?;
+            Ok(())
+        }
     }
 }

@@ -1,130 +1,274 @@
 use super::*;
+use rb_base::{Event, Op, SiteId, SiteSetup, Value};
 use std::test::Fail;
 
-const BAD: Option<ParseFault> = Some(ParseFault::Bad {
-    line: 0,
-    kind: ScriptKind::Syntax,
-});
+const NAME_OF_32: &str = "abcdefghijklmnopqrstuvwxyz_12345";
 
-/// Scripts that are refused, each with what is wrong in it.
-const REFUSED: [(&str, &[u8]); 22] = [
-    ("a first line that is empty", b"\n"),
-    ("a later line that is empty", b"table t num\n\nlog A\n"),
-    ("two spaces", b"table t num\ntx A  ins t 1 1\n"),
-    ("a leading space", b"table t num\n log A\n"),
-    ("a space at the end", b"table t num\nlog A \n"),
-    ("a tab", b"table\tt num\n"),
-    ("a carriage return", b"table t num\r\nlog A\r\n"),
-    ("a last line that does not end", b"table t num\nlog A"),
+/// Short scripts that are refused, each with its first bad line and what is wrong there.
+const REFUSED: [(&[u8], u32, ScriptKind); 38] = [
+    (b"frob", 1, ScriptKind::Syntax),
+    (b"tx A ins t 1 1", 1, ScriptKind::Setup),
+    (b"deliver A 18446744073709551616", 1, ScriptKind::Syntax),
     (
-        "a number of 21 digits",
-        b"table t num\ntx A ins t 000000000000000000001 1\n",
+        b"table abcdefghijklmnopqrstuvwxyz_123456 num",
+        1,
+        ScriptKind::Syntax,
+    ),
+    (b"table tT", 1, ScriptKind::Syntax),
+    (b"table 1t", 1, ScriptKind::Syntax),
+    (b"deliver A 000000000000000000001", 1, ScriptKind::Syntax),
+    (b"log A\nlog\rA\n", 2, ScriptKind::Syntax),
+    (b"log A\n\r\r\n", 2, ScriptKind::Syntax),
+    (b"# \x80", 1, ScriptKind::Syntax),
+    (b"log A # later", 1, ScriptKind::Syntax),
+    (
+        b"site A groups 1 replicas 1 limit 1048576\nsite A groups 1 replicas 1 limit 1048576\n",
+        2,
+        ScriptKind::Setup,
     ),
     (
-        "a key above 64 bits",
-        b"table t num\ntx A ins t 18446744073709551616 1\n",
+        b"site A groups 0 replicas 1 limit 1048576",
+        1,
+        ScriptKind::Limit(Limit::Groups),
     ),
     (
-        "a value above 64 bits",
-        b"table t num\ntx A ins t 1 18446744073709551616\n",
+        b"site A groups 9 replicas 5 limit 512",
+        1,
+        ScriptKind::Limit(Limit::Groups),
     ),
     (
-        "a name of 33 bytes",
-        b"table abcdefghijklmnopqrstuvwxyz0123456 num\n",
-    ),
-    ("a capital in a name", b"table tT num\n"),
-    ("a name that begins with a digit", b"table 1t num\n"),
-    ("a column of text", b"table t text:3\n"),
-    ("a second table", b"table t num\ntable u num\n"),
-    (
-        "a transaction before the table",
-        b"tx A ins t 1 1\ntable t num\n",
+        b"site A groups 8 replicas 5 limit 512",
+        1,
+        ScriptKind::Limit(Limit::Replicas),
     ),
     (
-        "two operations",
-        b"table t num\ntx A ins t 1 1 ; ins t 2 2\n",
+        b"site A groups 8 replicas 4 limit 512",
+        1,
+        ScriptKind::Limit(Limit::LogLimit),
     ),
-    ("a word too many", b"table t num\ntx A ins t 1 1 1\n"),
-    ("another table", b"table t num\ntx A ins u 1 1\n"),
-    ("the other site", b"table t num\nepoch B\n"),
-    ("no number", b"table t num\ntx A ins t 1 -1\n"),
+    (
+        b"site A groups 4294967296 replicas 1 limit 1048576",
+        1,
+        ScriptKind::Syntax,
+    ),
+    (
+        b"site B groups 1 replicas 1 limit 1048576",
+        1,
+        ScriptKind::Syntax,
+    ),
+    (
+        b"log A\nsite A groups 9 replicas 1 limit 1048576",
+        2,
+        ScriptKind::Setup,
+    ),
+    (b"table t num\ntable u\ntable t\n", 3, ScriptKind::Setup),
+    (b"table t\nlog A\ntable u\n", 3, ScriptKind::Setup),
+    (
+        b"table t num num num num num num num num num num num num num num num num",
+        1,
+        ScriptKind::Limit(Limit::Columns),
+    ),
+    (b"table t text", 1, ScriptKind::Syntax),
+    (b"table t num\ntx A del t 1 2", 2, ScriptKind::Syntax),
+    (b"table t num\ntx A ins t 1", 2, ScriptKind::Setup),
+    (b"table t num\ntx A ins t 1 2 3", 2, ScriptKind::Setup),
+    (b"table t num\ntx A ins t 1 \"2\"", 2, ScriptKind::Setup),
+    (b"table t num\ntx A ins t \"1\" 2", 2, ScriptKind::Syntax),
+    (b"table t num\ntx A ins t 1 \"2", 2, ScriptKind::Syntax),
+    (b"table t num\ntx A ins t 1 \"ab\"", 2, ScriptKind::Setup),
+    (b"table t num\ntx A ins t 1 \"a\tb\"", 2, ScriptKind::Syntax),
+    (b"table t num\ntx A ins t 1 \"a\"b", 2, ScriptKind::Syntax),
+    (b"table t num\ntx A ins t 1 b\"a\"", 2, ScriptKind::Syntax),
+    (b"table t num\ntx A ins u 1 2", 2, ScriptKind::Setup),
+    (
+        b"table t num\ntx A ins u 1 2 ; ins t x 1",
+        2,
+        ScriptKind::Syntax,
+    ),
+    (b"table t num\ntx A ins t 1 2 ;", 2, ScriptKind::Syntax),
+    (b"epoch A A", 1, ScriptKind::Syntax),
+    (b"frob\ntx A ins t 1 1", 1, ScriptKind::Syntax),
 ];
 
 #[test]
 fn refuses(rt: HostRuntime) {
-    for (what, script) in REFUSED {
-        assert_eq!(rt; parse(rt.alloc(), script).err(), BAD, "at {what}");
+    for (script, line, kind) in REFUSED {
+        assert_eq!(rt;
+            parse(rt.alloc(), script).err(),
+            Some(ParseFault::Bad { line, kind }),
+            "at line {line}"
+        );
     }
 }
 
 #[test]
-fn reads(rt: HostRuntime) -> Result<(), Fail> {
-    let text = b"table t num\ntx A ins t 5 7\ntx A ins t 6 8\nepoch A\nlog A\n";
+fn reads_a_setup(rt: HostRuntime) -> Result<(), Fail> {
+    let text =
+        b"# a script\r\n\n\tsite A groups 2 replicas 3 limit 1048576\ntable t num\n table empty\r\n";
     let script = parse(rt.alloc(), text).or(Err("it is a script"))?;
-    let name = script.table.ok_or("it has a table")?;
-    assert_eq!(rt; name.as_slice(), b"t".as_slice());
-    assert_eq!(rt;
-        script.steps.as_slice(),
-        [
-            Step::Insert { key: 5, value: 7 },
-            Step::Insert { key: 6, value: 8 },
-            Step::Close,
-            Step::Log,
-        ]
-        .as_slice()
-    );
+    let shape = SiteSetup {
+        groups: 2,
+        replicas: 3,
+        limit: 1048576,
+    };
+    assert_eq!(rt; script.setup.a, shape);
+    let [t, empty] = script.setup.tables.as_slice() else {
+        return Err("it has two tables".into());
+    };
+    assert_eq!(rt; t.name.as_slice(), b"t".as_slice());
+    assert_eq!(rt; t.columns.as_slice().len(), 1);
+    assert_eq!(rt; empty.name.as_slice(), b"empty".as_slice());
+    Ok(())
+}
+
+#[test]
+fn reads_operations(rt: HostRuntime) -> Result<(), Fail> {
+    let text = b"table t num\ntable empty\ntx\tA ins t 5 7 ;  put empty 00000000000000000006";
+    let script = parse(rt.alloc(), text).or(Err("it is a script"))?;
+    let [event] = script.events.as_slice() else {
+        return Err("it has an event".into());
+    };
+    let Event::Tx(SiteId::A, operations) = &event.event else {
+        return Err("it is a transaction".into());
+    };
+    let [insert, put] = operations.as_slice() else {
+        return Err("it has two operations".into());
+    };
+    assert!(rt; insert.op == Op::Ins && insert.table == 1 && insert.key == 5);
+    assert!(rt; put.op == Op::Put && put.table == 2 && put.key == 6);
+    let row = insert.row.as_ref().ok_or("an insert has a row")?;
+    assert!(rt; matches!(row.values.as_slice(), [Value::Num(5), Value::Num(7)]));
+    Ok(())
+}
+
+#[test]
+fn reads_events(rt: HostRuntime) -> Result<(), Fail> {
+    let text = b"epoch A\n  # and on\ngcp A\ndeliver A 12\ndeliver A all\ninject A\nlog A";
+    let script = parse(rt.alloc(), text).or(Err("it is a script"))?;
+    let [close, gcp, deliver, all, inject, log] = script.events.as_slice() else {
+        return Err("it has six events".into());
+    };
+    assert!(rt; close.line == 1 && gcp.line == 3 && log.line == 7);
+    assert!(rt; matches!(close.event, Event::Close(SiteId::A, false)));
+    assert!(rt; matches!(gcp.event, Event::Close(SiteId::A, true)));
+    assert!(rt; matches!(deliver.event, Event::Deliver(SiteId::A, 12)));
+    assert!(rt; matches!(all.event, Event::DeliverAll(SiteId::A)));
+    assert!(rt; matches!(inject.event, Event::Inject(SiteId::A)));
+    assert!(rt; matches!(log.event, Event::Log(SiteId::A)));
     Ok(())
 }
 
 #[test]
 fn reads_nothing(rt: HostRuntime) -> Result<(), Fail> {
     let script = parse(rt.alloc(), b"").or(Err("it is a script"))?;
-    assert!(rt; script.table.is_none());
-    assert!(rt; script.steps.as_slice().is_empty());
+    assert!(rt; script.setup.tables.as_slice().is_empty());
+    assert!(rt; script.events.as_slice().is_empty());
+    assert_eq!(rt; script.setup.a.groups, 1);
     Ok(())
 }
 
 #[test]
-fn reads_the_longest_words(rt: HostRuntime) -> Result<(), Fail> {
-    let text =
-        b"table abcdefghijklmnopqrstuvwxyz_12345 num\ntx A ins abcdefghijklmnopqrstuvwxyz_12345 00000000000000000005 18446744073709551615\n";
-    let script = parse(rt.alloc(), text).or(Err("it is a script"))?;
-    assert_eq!(rt;
-        script.steps.as_slice(),
-        [Step::Insert {
-            key: 5,
-            value: u64::MAX
-        }]
-        .as_slice()
-    );
+fn reads_the_longest_name(rt: HostRuntime) -> Result<(), Fail> {
+    let text = format!(in rt.alloc(); "table {NAME_OF_32} num")?;
+    let script = parse(rt.alloc(), text.as_bytes()).or(Err("it is a script"))?;
+    let [table] = script.setup.tables.as_slice() else {
+        return Err("it has a table".into());
+    };
+    assert_eq!(rt; table.name.as_slice(), NAME_OF_32.as_bytes());
     Ok(())
 }
 
-/// A script of this many equal lines after its first.
-fn repeated(rt: &HostRuntime, line: &[u8], times: u32) -> Result<Vec<u8>, Fail> {
-    let mut text = Vec::from_slice(rt.alloc(), b"table t num\n")?;
+/// A script of a first part, a part so many times, and a last part.
+fn repeated(
+    rt: &HostRuntime,
+    first: &[u8],
+    part: &[u8],
+    times: u32,
+    last: &[u8],
+) -> Result<Vec<u8>, Fail> {
+    let mut text = Vec::from_slice(rt.alloc(), first)?;
     for _ in 0..times {
-        text.extend_from_slice(line)?;
+        text.extend_from_slice(part)?;
     }
+    text.extend_from_slice(last)?;
     Ok(text)
+}
+
+// What a script of a repeated part is refused for.
+fn refusal(
+    rt: &HostRuntime,
+    first: &[u8],
+    part: &[u8],
+    times: u32,
+    last: &[u8],
+) -> Result<Option<ParseFault>, Fail> {
+    let text = repeated(rt, first, part, times, last)?;
+    Ok(parse(rt.alloc(), &text).err())
 }
 
 #[test]
 fn counts_lines(rt: HostRuntime) -> Result<(), Fail> {
-    let text = repeated(&rt, b"log A\n", 99999)?;
+    let text = repeated(&rt, b"", b"\n", 99999, b"log A")?;
     let script = parse(rt.alloc(), &text).or(Err("it is a script"))?;
-    assert_eq!(rt; script.steps.as_slice().len(), 99999);
-    let text = repeated(&rt, b"log A\n", 100000)?;
-    assert_eq!(rt; parse(rt.alloc(), &text).err(), BAD);
+    let event = script.events.as_slice().first().ok_or("it has an event")?;
+    assert_eq!(rt; event.line, 100000);
+    let line = 100001;
+    let kind = ScriptKind::Limit(Limit::Lines);
+    assert_eq!(rt;
+        refusal(&rt, b"", b"\n", 100000, b"# x")?,
+        Some(ParseFault::Bad { line, kind })
+    );
+    let kind = ScriptKind::Syntax;
+    assert_eq!(rt;
+        refusal(&rt, b"", b"\n", 100000, b"frob")?,
+        Some(ParseFault::Bad { line, kind })
+    );
     Ok(())
 }
 
 #[test]
-fn counts_inserts(rt: HostRuntime) -> Result<(), Fail> {
-    let text = repeated(&rt, b"tx A ins t 1 1\n", 400)?;
-    let script = parse(rt.alloc(), &text).or(Err("it is a script"))?;
-    assert_eq!(rt; script.steps.as_slice().len(), 400);
-    let text = repeated(&rt, b"tx A ins t 1 1\n", 401)?;
-    assert_eq!(rt; parse(rt.alloc(), &text).err(), BAD);
+fn counts_changes(rt: HostRuntime) -> Result<(), Fail> {
+    let last = b"log A\ntx A ins t 1 1\n";
+    let kind = ScriptKind::Limit(Limit::Changes);
+    assert_eq!(rt;
+        refusal(&rt, b"table t num\n", b"tx A ins t 1 1\n", 400, last)?,
+        Some(ParseFault::Bad { line: 403, kind })
+    );
+    let first = b"table t num\ntx A ins t 1 1";
+    let kind = ScriptKind::Syntax;
+    assert_eq!(rt;
+        refusal(&rt, first, b"; ins t 1 1", 4096, b"")?,
+        Some(ParseFault::Bad { line: 2, kind })
+    );
+    let kind = ScriptKind::Limit(Limit::TxChanges);
+    assert_eq!(rt;
+        refusal(&rt, first, b" ; ins t 1 1", 4096, b"")?,
+        Some(ParseFault::Bad { line: 2, kind })
+    );
+    Ok(())
+}
+
+#[test]
+fn counts_tables(rt: HostRuntime) -> Result<(), Fail> {
+    let mut text = Vec::new(rt.alloc());
+    for number in 0..33 {
+        text.extend_from_slice(format!(in rt.alloc(); "table t{number}\n")?.as_bytes())?;
+    }
+    let kind = ScriptKind::Limit(Limit::Tables);
+    assert_eq!(rt;
+        parse(rt.alloc(), &text).err(),
+        Some(ParseFault::Bad { line: 33, kind })
+    );
+    Ok(())
+}
+
+#[test]
+fn counts_bytes(rt: HostRuntime) -> Result<(), Fail> {
+    let text = repeated(&rt, b" ", b"                                ", 1048576, b"")?;
+    let kind = ScriptKind::Limit(Limit::Bytes);
+    assert_eq!(rt;
+        parse(rt.alloc(), &text).err(),
+        Some(ParseFault::Bad { line: 0, kind })
+    );
     Ok(())
 }

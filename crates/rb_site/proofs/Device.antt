@@ -10,7 +10,7 @@ use Rattle.rb_base.specs.declared.body.EpochBody.{EpochBody}
 use Rattle.rb_disk.specs.Disk.{Torn, Holds}
 use Rattle.rb_log_defs.specs.File.{file_start}
 use Rattle.rb_log_defs.proofs.Files.{one_file_first}
-use Rattle.rb_play_defs.specs.Play.{default_limit}
+use Rattle.rb_text_defs.specs.Script.{default_limit}
 use Rattle.rb_play_defs.specs.Part.{IsLogOf, next_bytes}
 use Rattle.rb_site.specs.Fault.{site_fault_of, LeavesLog, LeavesPart}
 use Rattle.rb_site.specs.Writer.{IsTorn}

@@ -13,7 +13,7 @@ is_equal : (b : Bool) → is_eq (cond b Equal Greater) ≡ b
 is_equal true = refl
 is_equal false = refl
 
-at_key : (key other : ℕ) → is_at (nat_cmp key) other ≡ (key == other)
+pub at_key : (key other : ℕ) → is_at (nat_cmp key) other ≡ (key == other)
 at_key key other = go (nat_lt key other) refl
   where
     go : (b : Bool) → nat_lt key other ≡ b → is_eq (cond b Less (cond (key == other) Equal Greater)) ≡ (key == other)

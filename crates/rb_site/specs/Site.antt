@@ -1,39 +1,129 @@
 -- What a site's value stands for.
-use Rattle.std.specs.Prelude.{◌≡◌, ℕ, List, length, Option}
-use Rattle.std.specs.Ordering.{nat_cmp}
-use Rattle.std.specs.Option.{option_to_list}
-use Rattle.std.specs.BTreeSet.{contains}
-use Rattle.rb_play_defs.specs.Play.{Progress, tables_of}
-use Rattle.rb_site.specs.Holding.{Holding, StandsFor}
+use Rattle.std.specs.Prelude.{◌≡◌, ℕ, ◌+◌, ◌*◌, ◌≤◌, ◌<◌, ◌-◌, ◌^◌, List, length, map, sum_by}
+use Rattle.std.specs.List.{AllByRecursion}
+use Rattle.rb_base.specs.declared.site.SiteId.TheVariants.{A}
+use Rattle.rb_base.specs.declared.schema.Column.TheVariants.{Num}
+use Rattle.rb_base.specs.declared.schema.Schema.{Schema}
+use Rattle.rb_base.specs.declared.schema.Mapped.{Mapped}
+use Rattle.rb_base.specs.declared.body.EpochBody.{EpochBody}
+use Rattle.rb_base.specs.declared.script.ClientOp.{ClientOp}
+use Rattle.rb_journal_defs.specs.Journal.{Journal, changes_of, closed_epochs, previous_closed, row_at}
+use Rattle.rb_journal_defs.specs.Body.{Shape, changes_in, mapped_tables}
+use Rattle.rb_text_defs.specs.Script.{most_changes}
+use Rattle.rb_store.specs.Tables.{rows_in, tables_in}
+use Rattle.rb_evbuf.specs.Buffer.{StandsFor}
+use Rattle.rb_play_defs.specs.Step.{Progress, fed_by, last_epoch, written_bodies}
+use Rattle.rb_play_defs.specs.Sound.{IsSound}
+use Rattle.rb_play_defs.specs.Fitting.{JournalFits, OperationFits}
+use Rattle.rb_play_defs.specs.Part.{IsLogOf}
+use Rattle.rb_play_defs.specs.declared.event.SiteEvent.{SiteEvent}
+use Rattle.rb_play_defs.specs.declared.event.SiteEvent.TheVariants as events
+use Rattle.rb_site.specs.Nodes.{Buffered, HoldsNodes}
+use Rattle.rb_site.specs.Outbox.{HoldsSent, count_in}
 use Rattle.rb_site.specs.declared.site.Site.{Site}
 
--- what a site holds, over the file that it writes to
-abbrev pub held_by : Site → (file : List ℕ) → Holding
-held_by site file = record {
-  opened = site.open.0;
-  drawn = site.drawn;
-  has_key = λ key. contains nat_cmp site.keys key;
-  pending = site.pending.items;
-  waiting = site.waiting.items;
-  written = site.written;
-  last = site.last.0;
-  file = file;
-}
+-- a table of at most 16 columns of numbers, with a name of at most 32 bytes
+pub record IsSmallTable (table : Mapped) : Type 0 where
+  pub numbers : AllByRecursion (λ column. column ≡ Num) table.columns
+  pub some : 0 < length table.columns
+  pub few : length table.columns ≤ 16
+  pub schema : length table.schema ≡ 2
+  pub name : length table.name ≤ 32
 
--- a site over a file stands for where a run has come, of a script that declares this table, or none
-pub record IsSite (name : Option (List ℕ)) (site : Site) (file : List ℕ) (run : Progress) : Type 0 where
-  pub table : option_to_list site.table ≡ tables_of name
-  pub length : site.length ≡ length file
-  pub stands : StandsFor name (held_by site file) run
+-- all changes of a site
+abbrev pub changes_made : Shape → Journal → ℕ
+changes_made shape journal = sum_by (λ entry. length (changes_of shape.site entry)) journal
 
--- it stands for some run
-abbrev pub Stands : Site → (file : List ℕ) → Type 0
-Stands site file = (name : Option (List ℕ)) × (run : Progress) × IsSite name site file run
+-- the closed epochs of a journal, each with the one that was closed before it
+abbrev pub closes_of : Journal → List (ℕ × ℕ)
+closes_of journal = map (λ epoch. (epoch, previous_closed epoch journal)) (closed_epochs journal)
+
+-- what the nodes of a site have buffered at a point of its run
+abbrev pub buffered_by : Shape → Progress → Buffered
+buffered_by shape run = record { opened = run.opened; changes = λ epoch. changes_in shape.site epoch run.journal; closes = closes_of run.journal }
+
+-- how many bytes an epoch takes for each of its changes at most
+abbrev pub most_of_change : ℕ
+most_of_change = 606
+
+-- how many changes bodies have
+abbrev pub changes_in_bodies : List EpochBody → ℕ
+changes_in_bodies bodies = sum_by (λ body. length body.changes) bodies
+
+-- the declared tables, all of them small
+pub record AreDeclared (shape : Shape) : Type 0 where
+  pub primary : shape.site ≡ A
+  pub schemas : List Schema
+  pub tables : shape.tables ≡ mapped_tables schemas
+  pub small : AllByRecursion IsSmallTable shape.tables
+
+-- site A with these tables, and so many groups of so many nodes each
+abbrev pub shape_of : List Schema → (groups replicas : ℕ) → Shape
+shape_of schemas groups replicas = record { site = A; buckets = groups * replicas; tables = mapped_tables schemas }
+
+-- a site over its log file stands for a point of a run
+pub record IsSite (shape : Shape) (site : Site) (file : List ℕ) (run : Progress) : Type 0 where
+  pub declared : AreDeclared shape
+  pub sound : IsSound shape run
+  pub fits : JournalFits shape run.journal
+  pub id : site.id ≡ A
+  pub mapped : site.mapped ≡ shape.tables
+  pub clock : site.clock ≡ record { opened = run.opened; previous = previous_closed run.opened run.journal; drawn = run.drawn }
+  pub rows : (table key : ℕ) → rows_in site.tables table key ≡ row_at shape.site table key run.journal
+  pub count : tables_in site.tables ≡ length shape.tables
+  pub nodes : HoldsNodes site.nodes shape.buckets (buffered_by shape run)
+  pub outbox : HoldsSent site.outbox run.sent run.delivered
+  pub events : StandsFor site.events (fed_by shape run)
+  pub written : site.log.written ≡ run.written
+  pub last : site.log.last.0 ≡ last_epoch (written_bodies shape run)
+  pub log : IsLogOf (written_bodies shape run) file
+  pub length_is : site.log.length ≡ length file
+  pub made : site.made ≡ changes_made shape run.journal
+  pub few : site.made ≤ most_changes
+  pub size : length file ≤ 115 + most_of_change * changes_in_bodies (written_bodies shape run)
+
+-- how many changes a site's clients have made
+abbrev pub made_by : Site → ℕ
+made_by site = site.made
 
 -- how many transactions it has numbered
-abbrev pub drawn_of : Site → ℕ
-drawn_of site = site.drawn
+abbrev pub drawn_by : Site → ℕ
+drawn_by site = site.clock.drawn
+
+-- how many messages its nodes have sent
+abbrev pub sent_by_site : Site → ℕ
+sent_by_site site = count_in site.outbox
+
+-- how many node groups it has
+abbrev pub groups_of : Site → ℕ
+groups_of site = length site.nodes.groups.items
+
+-- how many nodes each of them has
+abbrev pub replicas_of : Site → ℕ
+replicas_of site = site.nodes.replicas
+
+-- a site with as many groups, of as many nodes each
+abbrev pub SameNodes : (old new : Site) → Type 0
+SameNodes old new = (groups_of new ≡ groups_of old) × (replicas_of new ≡ replicas_of old)
 
 -- its open epoch
 abbrev pub opened_of : Site → ℕ
-opened_of site = site.open.0
+opened_of site = site.clock.opened
+
+-- what a client's transaction needs: its operations fit the tables, and there is room for its changes and its number
+pub record TxFits (shape : Shape) (site : Site) (operations : List ClientOp) : Type 0 where
+  pub fit : AllByRecursion (OperationFits shape.tables) operations
+  pub room : made_by site + length operations ≤ most_changes
+  pub number : drawn_by site < 2 ^ 64 - 1
+
+-- what an event needs of a site
+abbrev pub EventFits : Shape → Site → SiteEvent → Type 0
+EventFits shape site (events.Tx operations) = TxFits shape site operations
+EventFits shape site (events.Close gci) = opened_of site + 2 ^ 32 < 2 ^ 64
+EventFits shape site (events.Deliver place) = Unit {0}
+EventFits shape site events.DeliverAll = Unit {0}
+EventFits shape site events.Inject = Unit {0}
+
+-- a site that can take an event
+abbrev pub CanTake : Site → (file : List ℕ) → SiteEvent → Type 0
+CanTake site file event = (shape : Shape) × (run : Progress) × IsSite shape site file run × EventFits shape site event

@@ -1,15 +1,23 @@
-//! One site of a run: it takes clients' inserts, closes its epochs, and writes its log.
+//! One site: its tables, its clock, its node groups, its event buffer, and the injector with its log.
 //!
-//! A [`Site`] stands for a journal (`IsSite`): each call says that whatever run it stood for, it now stands for that run
-//! with one step more, and what the log file then holds. Below stand the definitions of journal, log and run, the encoder
-//! of epochs and the log device; the top call stands above.
+//! A [`Site`] stands for a point of a run (`IsSite`). [`Site::step`] is one event: whatever the site stood for, it now
+//! stands for what the event leaves of it, and the outcome is the event's. Below stand the parts of a site, the encoder of
+//! epochs, the log device and the definitions of journal, messages and run; the top call stands above.
 #![tactic(auto)]
 
+mod body;
 mod fault;
+mod mapping;
+mod nodes;
+mod outbox;
+mod rows;
+mod sending;
 mod site;
+mod tally;
 mod writer;
 
 pub use fault::SiteFault;
+pub use rb_play_defs::SiteEvent;
 pub use site::Site;
 
 #[cfg(test)]

@@ -1,191 +1,394 @@
-ghost use Rattle.std.specs.Prelude.{◌≡◌, ◌≢◌, ℕ, ◌+◌, ◌<◌, ◌≤◌, ◌^◌, ◌-◌, List, [], ◌∷◌, IfOk, OnOk, IfErr, IsSome, Option, None, length};
-ghost use Rattle.std.specs.Option.{option_to_list};
-ghost use Rattle.rb_base.specs.Faults.{Rose};
-ghost use Rattle.rb_play_defs.specs.Play.{Progress, happens, beginning, inserted, tables_of, last_epoch};
-ghost use Rattle.rb_journal_defs.specs.Body.{completed_bodies};
-ghost use Rattle.rb_site.specs.Fault.{HasDiskCause, LeavesLog, LeavesPart};
-ghost use Rattle.rb_site.specs.Holding.{shape_with, logged_by, IsShortName};
-ghost use Rattle.rb_base.specs.declared.row.Value.TheVariants.{Num};
-ghost use Rattle.rb_text_defs.specs.declared.script.Step.TheVariants.{Insert, Close, Log};
+ghost use Rattle.std.specs.Prelude.{◌≡◌, ◌≢◌, ◌+◌, ◌*◌, ◌<◌, ◌^◌, ℕ, [], length, List, None, IfOk, IfErr, OnOk};
+ghost use Rattle.rb_site.specs.Outcome.{outcome_of_fault};
+ghost use Rattle.rb_base.specs.declared.script.ClientOp.{ClientOp};
+ghost use Rattle.rb_evbuf.specs.Buffer.{StandsFor};
+ghost use Rattle.rb_store.specs.Tables.{rows_in};
+ghost use Rattle.rb_journal_defs.specs.Journal.{row_at};
+ghost use Rattle.rb_journal_defs.specs.Transaction.{refusal_of};
+ghost use Rattle.rb_site.specs.Nodes.{GroupHolds};
+ghost use Rattle.rb_journal_defs.specs.Body.{Shape, has_something_to_log};
+ghost use Rattle.rb_play_defs.specs.Step.{Progress, fed_by, last_epoch, beginning, rows_of, tx_changes, committed, commit_outcome, tx_step, close_step, deliver_step, deliver_all_step, injected, inject_step, site_step, written_bodies, answer_outcome as outcome_of_answer};
 
+use crate::body::body_of;
 use crate::fault::SiteFault;
-use crate::writer::{LogEnd, begin_file, write_bodies};
+use crate::mapping::map_tables;
+use crate::nodes::Nodes;
+use crate::outbox::Outbox;
+use crate::rows::store;
+use crate::sending::{send_all, send_parts};
+use crate::tally::Tally;
+use crate::writer::{LOG_FILE, begin_file, write_body};
 use rb_base::{
-    Change, Epoch, EpochBody, Items, Kind, Mapped, MappedTables, NoMemory, Row, SiteId, Value,
-    Values,
+    Changes, ClientOps, Epoch, EpochBody, MappedTables, NoMemory, Outcome, Schema, SiteId,
 };
+use rb_commit::{Clock, TxFault, prepare};
 use rb_disk::LogDisk;
+use rb_evbuf::{EventBuffer, Missing, Received};
+use rb_group::Group;
+use rb_play_defs::SiteEvent;
+use rb_store::Tables;
 use std::alloc::Global;
-use std::collections::BTreeSet;
-use std::mem;
 
-/// The first open epoch: micro GCI 0 of GCI 1.
-const FIRST_EPOCH: u64 = 4294967296;
+/// How far a site's log is written.
+#[derive(Clone, Copy, Debug)]
+pub(crate) struct LogEnd {
+    /// How many bodies are written.
+    pub(crate) written: u64,
+    /// The epoch of the last one, or 0.
+    pub(crate) last: Epoch,
+    /// The bytes of the file.
+    pub(crate) length: u32,
+}
 
-/// Site A within a run.
+/// One site within a run.
 #[derive(Drop)]
 pub struct Site {
-    table: Option<Mapped>,
-    open: Epoch,
-    drawn: u64,
-    keys: BTreeSet<u64>,
-    pending: Vec<Change>,
-    waiting: Vec<EpochBody>,
-    written: u64,
-    last: Epoch,
-    length: u32,
-}
-
-// A row of a key and a value.
-fn row_of(alloc: Global, key: u64, value: u64) -> Result<Row, NoMemory>
-    ensures { IfOk result (λ row. row.values ≡ Num key ∷ Num value ∷ []) }
-{
-    let mut values = Values::new(alloc);
-    values.push(Value::Num(key))?;
-    values.push(Value::Num(value))?;
-    Ok(Row { values })
-}
-
-// The insert of a row by a client of site A.
-fn insert_of(alloc: Global, key: u64, value: u64, transid: u64) -> Result<Change, NoMemory>
-    ensures { IfOk result (λ change. change ≡ inserted key value transid) }
-{
-    Ok(Change {
-        table: 1,
-        key,
-        kind: Kind::Insert,
-        before: None,
-        after: Some(row_of(alloc, key, value)?),
-        author: SiteId::A.server_id(),
-        transid,
-    })
+    alloc: Global,
+    id: SiteId,
+    tables: Tables,
+    // The tables as the log names them.
+    mapped: MappedTables,
+    clock: Clock,
+    nodes: Nodes,
+    outbox: Outbox,
+    events: EventBuffer,
+    log: LogEnd,
+    // How many changes its clients have made.
+    made: u64,
 }
 
 impl Site {
-    ghost use Rattle.rb_site.specs.Site.{IsSite, Stands, drawn_of, opened_of};
+    ghost use Rattle.rb_site.specs.Site.{IsSite, AreDeclared, EventFits, TxFits, CanTake, opened_of, sent_by_site, shape_of, groups_of, replicas_of, SameNodes, buffered_by};
+    ghost use Rattle.rb_site.specs.Inject.{HasTaken};
+    ghost use Rattle.rb_site.specs.Fault.{HasDiskCause, LeavesLog, LeavesPart};
 
-    /// A new site of a script that declares this table, or none. Its log file begins, and is synced.
+    /// Site A with these tables and so many node groups of so many nodes each, over an empty log file, which gets its start.
     pub fn create<D: LogDisk>(
         alloc: Global,
-        table: Option<Mapped>,
+        schemas: &[Schema],
+        groups: u32,
+        replicas: u32,
         disk: &mut D,
     ) -> Result<Site, SiteFault>
+        requires declared { AreDeclared (shape_of schemas.now groups replicas) }
+        requires some { 0 < groups * replicas }
+        requires few { groups * replicas < 2 ^ 32 }
+        requires tables { length schemas.now < 2 ^ 16 }
         requires empty { D.seen disk.old 1 ≡ [] }
-        ensures ok { IfOk result (λ site. (name : Option (List ℕ)) → IsShortName name → option_to_list table ≡ tables_of name →
-            IsSite name site (D.seen disk.new 1) beginning) }
-        ensures err { IfErr result (LeavesPart [] (D.seen disk.new 1)) }
+        ensures begun { IfOk result (λ site. IsSite (shape_of schemas.now groups replicas) site (D.seen disk.new 1) beginning) }
+        ensures nodes { IfOk result (λ site. (groups_of site ≡ groups) × (replicas_of site ≡ replicas)) }
+        ensures stopped { IfErr result (LeavesPart [] (D.seen disk.new 1)) }
         ensures others { (other : ℕ) → other ≢ 1 → D.seen disk.new other ≡ D.seen disk.old other }
         ensures cause { HasDiskCause (D.fault_count disk.old) (D.fault_count disk.new) result }
     {
+        let clock = Clock::new(alloc);
+        let rows = Tables::new(alloc, schemas)?;
+        let mapped = map_tables(alloc, schemas)?;
+        let nodes = Nodes::new(alloc, groups, replicas, clock.open())?;
+        let events = EventBuffer::new(alloc, groups * replicas, Epoch(0))?;
         let length = begin_file(alloc, disk)?;
         Ok(Site {
-            table,
-            open: Epoch(FIRST_EPOCH),
-            drawn: 0,
-            keys: BTreeSet::new(alloc),
-            pending: Vec::new(alloc),
-            waiting: Vec::new(alloc),
-            written: 0,
-            last: Epoch(0),
-            length,
+            alloc,
+            id: SiteId::A,
+            tables: rows,
+            mapped,
+            clock,
+            nodes,
+            outbox: Outbox::new(alloc),
+            events,
+            log: LogEnd {
+                written: 0,
+                last: Epoch(0),
+                length,
+            },
+            made: 0,
         })
     }
 
-    /// A client's transaction that inserts a row. It is refused, and changes nothing, where the key is there. At an `Err`
-    /// the site stands for no run any more.
-    pub fn insert(&mut self, alloc: Global, key: u64, value: u64) -> Result<(), SiteFault>
-        requires room { drawn_of self.old < 2 ^ 64 - 1 }
-        ensures ok { OnOk result ((name : Option (List ℕ)) (file : List ℕ) (run : Progress) → IsSome name →
-            IsSite name self.old file run → IsSite name self.new file (happens (shape_with name) run (Insert key value))) }
-        ensures memory { IfErr result (λ fault. fault ≡ SiteFault.NoMemory) }
-    {
-        if !self.keys.insert(key)? {
-            return Ok(());
-        }
-        let transid = self.drawn + 1;
-        self.pending.push(insert_of(alloc, key, value, transid)?)?;
-        self.drawn = transid;
-        Ok(())
-    }
-
-    /// The open epoch closes. Its body waits for the log where it has something to log. At an `Err` the site stands for no
-    /// run any more.
-    pub fn close(&mut self, alloc: Global) -> Result<(), SiteFault>
-        requires room { opened_of self.old < 2 ^ 64 - 1 }
-        ensures ok { OnOk result ((name : Option (List ℕ)) (file : List ℕ) (run : Progress) →
-            IsSite name self.old file run → IsSite name self.new file (happens (shape_with name) run Close)) }
-        ensures memory { IfErr result (λ fault. fault ≡ SiteFault.NoMemory) }
-    {
-        let open = self.open;
-        self.open = Epoch(open.0 + 1);
-        if self.pending.is_empty() {
-            return Ok(());
-        }
-        let tables = self.tables(alloc)?;
-        let changes = Items::from_vec(mem::replace(&mut self.pending, Vec::new(alloc)));
-        self.waiting.push(body_of(open, tables, changes))?;
-        Ok(())
-    }
-
-    /// The injector writes the bodies that wait, in order, and syncs. At an `Err` the site stands for no run any more; what
-    /// the file holds is said.
-    pub fn log<D: LogDisk>(&mut self, alloc: Global, disk: &mut D) -> Result<(), SiteFault>
-        requires stands { Stands self.old (D.seen disk.old 1) }
-        requires few { drawn_of self.old ≤ 400 }
-        ensures ok { OnOk result ((name : Option (List ℕ)) (run : Progress) → IsSite name self.old (D.seen disk.old 1) run →
-            IsSite name self.new (D.seen disk.new 1) (happens (shape_with name) run Log)) }
-        ensures err { IfErr result (λ fault. (name : Option (List ℕ)) (run : Progress) → IsSite name self.old (D.seen disk.old 1) run →
-            LeavesLog run.written (completed_bodies (shape_with name) run.journal) (D.seen disk.new 1) fault) }
+    /// One event, and its answer.
+    pub fn step<D: LogDisk>(
+        self,
+        event: &SiteEvent,
+        disk: &mut D,
+    ) -> Result<(Site, Outcome), SiteFault>
+        requires fits { CanTake self (D.seen disk.old 1) event.now }
+        ensures stepped { IfOk result (λ pair. (shape : Shape) (run : Progress) → IsSite shape self (D.seen disk.old 1) run → EventFits shape self event.now →
+            IsSite shape pair.0 (D.seen disk.new 1) (site_step shape run event.now).run × (pair.1 ≡ (site_step shape run event.now).outcome)) }
+        ensures nodes { IfOk result (λ pair. (groups_of pair.0 ≡ groups_of self) × (replicas_of pair.0 ≡ replicas_of self)) }
+        ensures stopped { IfErr result (λ fault. (shape : Shape) (run : Progress) → IsSite shape self (D.seen disk.old 1) run →
+            LeavesLog run.written (written_bodies shape (site_step shape run event.now).run) (D.seen disk.new 1) fault) }
         ensures others { (other : ℕ) → other ≢ 1 → D.seen disk.new other ≡ D.seen disk.old other }
         ensures cause { HasDiskCause (D.fault_count disk.old) (D.fault_count disk.new) result }
     {
-        let end = LogEnd {
-            length: self.length,
-            last: self.last,
-        };
-        let end = write_bodies(alloc, &self.waiting, end, disk)?;
-        self.written += self.waiting.len() as u64;
-        self.waiting.clear();
-        self.length = end.length;
-        self.last = end.last;
-        Ok(())
-    }
-
-    /// How many bodies are written.
-    pub fn written(&self) -> u64
-        ensures { (name : Option (List ℕ)) (file : List ℕ) (run : Progress) → IsSite name self.now file run → result ≡ length (logged_by name run) }
-    {
-        self.written
-    }
-
-    /// The epoch of the last body that is written, or 0.
-    pub fn last(&self) -> Epoch
-        ensures { (name : Option (List ℕ)) (file : List ℕ) (run : Progress) → IsSite name self.now file run → result.0 ≡ last_epoch (logged_by name run) }
-    {
-        self.last
-    }
-
-    // The site's table, as a body names it.
-    fn tables(&self, alloc: Global) -> Result<MappedTables, NoMemory>
-        ensures { IfOk result (λ tables. tables ≡ option_to_list self.now.table) }
-    {
-        let mut tables = MappedTables::new(alloc);
-        if let Some(table) = &self.table {
-            tables.push(table.copy(alloc)?)?;
+        match event {
+            SiteEvent::Tx(operations) => Ok(self.transact(operations)?),
+            SiteEvent::Close(gci) => Ok(self.close(*gci)?),
+            SiteEvent::Deliver(place) => Ok(self.deliver(*place)?),
+            SiteEvent::DeliverAll => Ok(self.deliver_all()?),
+            SiteEvent::Inject => self.inject(disk),
         }
-        Ok(tables)
+    }
+
+    /// The node group of this number. The numbers begin at 0. It takes no memory.
+    pub fn group(&self, number: u32) -> &Group
+        requires number { number < groups_of self.now }
+        ensures { (shape : Shape) (file : List ℕ) (run : Progress) → IsSite shape self.now file run →
+            GroupHolds (number * replicas_of self.now) (replicas_of self.now) shape.buckets (buffered_by shape run) result.now }
+    {
+        self.nodes.group(number)
+    }
+
+    /// The injector's event buffer. It takes no memory.
+    pub fn event_buffer(&self) -> &EventBuffer
+        ensures { (shape : Shape) (file : List ℕ) (run : Progress) → IsSite shape self.now file run → StandsFor result.now (fed_by shape run) }
+    {
+        &self.events
+    }
+
+    /// How many messages its nodes have sent. It takes no memory.
+    pub fn sent_len(&self) -> u64
+        ensures { (shape : Shape) (file : List ℕ) (run : Progress) → IsSite shape self.now file run → result ≡ length run.sent }
+    {
+        self.outbox.len()
+    }
+
+    /// Its tables. It takes no memory.
+    pub fn tables(&self) -> &Tables
+        ensures { (shape : Shape) (file : List ℕ) (run : Progress) → IsSite shape self.now file run →
+            (table key : ℕ) → rows_in result.now table key ≡ row_at shape.site table key run.journal }
+    {
+        &self.tables
+    }
+
+    /// Its open epoch. It takes no memory.
+    pub fn open(&self) -> Epoch
+        ensures { (shape : Shape) (file : List ℕ) (run : Progress) → IsSite shape self.now file run → result.0 ≡ run.opened }
+    {
+        self.clock.open()
+    }
+
+    /// How many epochs are written to its log. It takes no memory.
+    pub fn written(&self) -> u64
+        ensures { (shape : Shape) (file : List ℕ) (run : Progress) → IsSite shape self.now file run → result ≡ length (written_bodies shape run) }
+    {
+        self.log.written
+    }
+
+    /// The last epoch in its log, or epoch 0 where there is none. It takes no memory.
+    pub fn last_written(&self) -> Epoch
+        ensures { (shape : Shape) (file : List ℕ) (run : Progress) → IsSite shape self.now file run → result.0 ≡ last_epoch (written_bodies shape run) }
+    {
+        self.log.last
+    }
+
+    // A client's transaction: refused, with nothing changed, or accepted.
+    fn transact(self, operations: &ClientOps) -> Result<(Site, Outcome), NoMemory>
+        requires fits { (file : List ℕ) × (shape : Shape) × (run : Progress) × IsSite shape self file run × TxFits shape self operations.now }
+        ensures stepped { IfOk result (λ pair. (shape : Shape) (file : List ℕ) (run : Progress) → IsSite shape self file run → TxFits shape self operations.now →
+            IsSite shape pair.0 file (tx_step shape operations.now run).run × (pair.1 ≡ (tx_step shape operations.now run).outcome)) }
+        ensures nodes { IfOk result (λ pair. SameNodes self pair.0) }
+    {
+        let Some(transid) = self.clock.next_transid() else {
+            unreachable!();
+        };
+        let author = self.id.server_id();
+        let prepared = prepare(
+            self.alloc,
+            &self.tables,
+            operations.as_slice(),
+            author,
+            transid,
+        );
+        match prepared {
+            Ok(changes) => self.commit(changes),
+            Err(fault) => {
+                let outcome = refused(fault)?;
+                Ok((self, outcome))
+            }
+        }
+    }
+
+    // Accepts the changes of a transaction: they are numbered, buffered, sent and stored.
+    fn commit(self, changes: Changes) -> Result<(Site, Outcome), NoMemory>
+        requires accepted { (file : List ℕ) × (shape : Shape) × (run : Progress) × (operations : List ClientOp) × IsSite shape self file run × TxFits shape self operations
+            × (refusal_of (rows_of shape run) operations ≡ None) × (changes ≡ tx_changes shape operations run) }
+        ensures committed { IfOk result (λ pair. (shape : Shape) (file : List ℕ) (run : Progress) (operations : List ClientOp) → IsSite shape self file run → TxFits shape self operations →
+            refusal_of (rows_of shape run) operations ≡ None → changes ≡ tx_changes shape operations run →
+            IsSite shape pair.0 file (committed shape operations run) × (pair.1 ≡ commit_outcome (committed shape operations run))) }
+        ensures nodes { IfOk result (λ pair. SameNodes self pair.0) }
+    {
+        let mut site = self;
+        let Some(transid) = site.clock.draw() else {
+            unreachable!();
+        };
+        let epoch = site.clock.open();
+        site.made += changes.as_slice().len() as u64;
+        let nodes = send_parts(site.nodes, &mut site.outbox, changes.as_slice())?;
+        store(site.alloc, &mut site.tables, changes.as_slice(), epoch)?;
+        let sent = site.outbox.len();
+        let site = Site { nodes, ..site };
+        Ok((
+            site,
+            Outcome::Committed {
+                transid,
+                epoch,
+                sent,
+            },
+        ))
+    }
+
+    // The open epoch closes: the nodes tell the ends of their parts, and the next epoch opens.
+    fn close(self, gci: bool) -> Result<(Site, Outcome), NoMemory>
+        requires fits { (file : List ℕ) × (shape : Shape) × (run : Progress) × IsSite shape self file run × (opened_of self + 2 ^ 32 < 2 ^ 64) }
+        ensures closed { IfOk result (λ pair. (shape : Shape) (file : List ℕ) (run : Progress) → IsSite shape self file run →
+            IsSite shape pair.0 file (close_step shape gci run).run × (pair.1 ≡ (close_step shape gci run).outcome)) }
+        ensures nodes { IfOk result (λ pair. SameNodes self pair.0) }
+    {
+        let mut site = self;
+        let prev = site.clock.prev();
+        let Some(epoch) = site.clock.close(gci) else {
+            unreachable!();
+        };
+        let (nodes, messages) = site.nodes.close(prev, site.clock.open())?;
+        send_all(&mut site.outbox, messages)?;
+        let sent = site.outbox.len();
+        let site = Site { nodes, ..site };
+        Ok((site, Outcome::Closed { epoch, sent }))
+    }
+
+    // The message at a place reaches the event buffer, where there is one.
+    fn deliver(self, place: u64) -> Result<(Site, Outcome), NoMemory>
+        requires fits { (file : List ℕ) × (shape : Shape) × (run : Progress) × IsSite shape self file run }
+        ensures delivered { IfOk result (λ pair. (shape : Shape) (file : List ℕ) (run : Progress) → IsSite shape self file run →
+            IsSite shape pair.0 file (deliver_step shape place run).run × (pair.1 ≡ (deliver_step shape place run).outcome)) }
+        ensures nodes { IfOk result (λ pair. SameNodes self pair.0) }
+    {
+        let mut site = self;
+        let sent = site.outbox.len();
+        if place >= sent {
+            return Ok((site, Outcome::NoMessage { place, sent }));
+        }
+        let answer = site.receive(place)?;
+        Ok((site, answer_outcome(answer)))
+    }
+
+    // Each message that was never delivered reaches the event buffer, in order.
+    fn deliver_all(self) -> Result<(Site, Outcome), NoMemory>
+        requires fits { (file : List ℕ) × (shape : Shape) × (run : Progress) × IsSite shape self file run }
+        ensures delivered { IfOk result (λ pair. (shape : Shape) (file : List ℕ) (run : Progress) → IsSite shape self file run →
+            IsSite shape pair.0 file (deliver_all_step shape run).run × (pair.1 ≡ (deliver_all_step shape run).outcome)) }
+        ensures nodes { IfOk result (λ pair. SameNodes self pair.0) }
+    {
+        let mut site = self;
+        let mut tally = Tally::new();
+        while let Some(place) = site.outbox.first_waiting() {
+            let answer = site.receive(place)?;
+            tally.add(answer);
+        }
+        Ok((site, tally.outcome()))
+    }
+
+    // The message at a place reaches the event buffer.
+    fn receive(&mut self, place: u64) -> Result<Received, NoMemory>
+        requires fits { (file : List ℕ) × (shape : Shape) × (run : Progress) × IsSite shape self.old file run }
+        requires place { place < sent_by_site self.old }
+        ensures received { IfOk result (λ answer. (shape : Shape) (file : List ℕ) (run : Progress) → IsSite shape self.old file run →
+            IsSite shape self.new file (deliver_step shape place run).run × (outcome_of_answer answer ≡ (deliver_step shape place run).outcome)) }
+        ensures nodes { SameNodes self.old self.new }
+    {
+        let message = self.outbox.deliver(place)?;
+        self.events.receive(message)
+    }
+
+    // The injector takes every whole epoch, logs those that have something to log, and syncs the file.
+    fn inject<D: LogDisk>(self, disk: &mut D) -> Result<(Site, Outcome), SiteFault>
+        requires fits { (shape : Shape) × (run : Progress) × IsSite shape self (D.seen disk.old 1) run }
+        ensures injected { IfOk result (λ pair. (shape : Shape) (run : Progress) → IsSite shape self (D.seen disk.old 1) run →
+            IsSite shape pair.0 (D.seen disk.new 1) (inject_step shape run).run × (pair.1 ≡ (inject_step shape run).outcome)) }
+        ensures nodes { IfOk result (λ pair. SameNodes self pair.0) }
+        ensures stopped { IfErr result (λ fault. (shape : Shape) (run : Progress) → IsSite shape self (D.seen disk.old 1) run →
+            LeavesLog run.written (written_bodies shape (injected shape run)) (D.seen disk.new 1) fault) }
+        ensures others { (other : ℕ) → other ≢ 1 → D.seen disk.new other ≡ D.seen disk.old other }
+        ensures cause { HasDiskCause (D.fault_count disk.old) (D.fault_count disk.new) result }
+    {
+        let mut site = self;
+        let mut count = 0u64;
+        while let Some(logged) = site.take_next(disk)? {
+            count += u64::from(logged);
+        }
+        disk.sync(LOG_FILE)?;
+        let missing = site.events.missing().unwrap_or(Missing {
+            bucket: 0,
+            place: None,
+        });
+        let written = site.log.last;
+        Ok((
+            site,
+            Outcome::Wrote {
+                count,
+                written,
+                bucket: missing.bucket,
+                place: missing.place,
+            },
+        ))
+    }
+
+    // Takes the next epoch, and logs it where there is something to log. Answers whether there was, or `None` where the epoch
+    // is not whole.
+    fn take_next<D: LogDisk>(&mut self, disk: &mut D) -> Result<Option<bool>, SiteFault>
+        requires fits { (shape : Shape) × (run : Progress) × IsSite shape self.old (D.seen disk.old 1) run }
+        ensures taken { IfOk result (λ taken. (shape : Shape) (run : Progress) → IsSite shape self.old (D.seen disk.old 1) run → HasTaken shape run self.new (D.seen disk.new 1) taken) }
+        ensures nodes { SameNodes self.old self.new }
+        ensures stopped { IfErr result (λ fault. (shape : Shape) (run : Progress) → IsSite shape self.old (D.seen disk.old 1) run →
+            LeavesLog run.written (written_bodies shape (injected shape run)) (D.seen disk.new 1) fault) }
+        ensures others { (other : ℕ) → other ≢ 1 → D.seen disk.new other ≡ D.seen disk.old other }
+        ensures cause { HasDiskCause (D.fault_count disk.old) (D.fault_count disk.new) result }
+    {
+        let Some(assembled) = self.events.take_epoch() else {
+            return Ok(None);
+        };
+        let epoch = assembled.epoch;
+        let body = body_of(self.alloc, self.id, self.mapped.as_slice(), assembled)?;
+        if !has_something(&body) {
+            return Ok(Some(false));
+        }
+        let length = write_body(self.alloc, &body, self.log.length, disk)?;
+        self.log = LogEnd {
+            written: self.log.written + 1,
+            last: epoch,
+            length,
+        };
+        Ok(Some(true))
     }
 }
 
-// The body of an epoch of site A.
-fn body_of(epoch: Epoch, tables: MappedTables, changes: Items<Change>) -> EpochBody
-    ensures { result ≡ record { server = 1; epoch = epoch; reflected = None; tables = tables; changes = changes } }
+// The answer to a refused transaction.
+fn refused(fault: TxFault) -> Result<Outcome, NoMemory>
+    ensures outcome { IfOk result (λ outcome. outcome ≡ outcome_of_fault fault) }
+    ensures refused { OnOk result (fault ≢ TxFault.NoMemory) }
 {
-    EpochBody {
-        server: SiteId::A.server_id(),
-        epoch,
-        reflected: None,
-        tables,
-        changes,
+    match fault {
+        TxFault::RowTwice(number) => Ok(Outcome::RowTwice(number)),
+        TxFault::KeyThere(number) => Ok(Outcome::KeyThere(number)),
+        TxFault::NoKey(number) => Ok(Outcome::NoKey(number)),
+        TxFault::NoMemory => Err(NoMemory),
     }
+}
+
+// The answer to a delivery.
+fn answer_outcome(answer: Received) -> Outcome
+    ensures { result ≡ outcome_of_answer answer }
+{
+    match answer {
+        Received::Kept => Outcome::Kept,
+        Received::Known => Outcome::Known,
+        Received::Old => Outcome::Old,
+    }
+}
+
+// A body has something to log.
+fn has_something(body: &EpochBody) -> bool
+    ensures { result ≡ has_something_to_log body.now }
+{
+    !body.changes.as_slice().is_empty() || body.reflected.is_some()
 }

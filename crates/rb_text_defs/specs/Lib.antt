@@ -1,3 +1,5 @@
 pub mod Words
+pub mod Form
 pub mod Script
+pub mod Legal
 pub mod Report

@@ -1,11 +1,31 @@
--- The script: one table, and then inserts at site A, closes of its epoch, and writes of its log, a line each.
-use Rattle.std.specs.Prelude.{ℕ, ◌+◌, nat_le, ◌&&◌, Bool, true, false, if◌then◌else◌, List, [], ◌∷◌, length, map, count_by, Option, Some, None, codes}
+-- The script: what its lines say together, and the first one that is refused.
+use Rattle.std.specs.Prelude.{ℕ, ◌+◌, ◌*◌, ◌==◌, nat_le, nat_lt, ◌&&◌, ◌||◌, not, Bool, true, false, if◌then◌else◌, List, [], ◌∷◌, length, map, filter_map, take, sum_by, Option, Some, None, is_some, Result, Ok, Err}
 use Rattle.std.specs.Str.{bytes_eq}
-use Rattle.std.specs.Option.{option_map, option_and_then}
-use Rattle.rb_text_defs.specs.declared.script.Step.{Step}
-use Rattle.rb_text_defs.specs.declared.script.Step.TheVariants.{Insert, Close, Log}
+use Rattle.std.specs.List.{find, list_any, list_all, enumerate_from, position}
+use Rattle.std.specs.Option.{option_map, option_map_or, option_and_then}
+use Rattle.rb_base.specs.declared.schema.Column.{Column}
+use Rattle.rb_base.specs.declared.schema.Column.TheVariants as columns
+use Rattle.rb_base.specs.declared.schema.Schema.{Schema}
+use Rattle.rb_base.specs.declared.row.Value.{Value}
+use Rattle.rb_base.specs.declared.row.Value.TheVariants as values
+use Rattle.rb_base.specs.declared.row.Row.{Row}
+use Rattle.rb_base.specs.declared.script.Op.{Op}
+use Rattle.rb_base.specs.declared.script.Op.TheVariants.{Ins, Upd, Put, Del}
+use Rattle.rb_base.specs.declared.script.ClientOp.{ClientOp}
+use Rattle.rb_base.specs.declared.script.Event.{Event}
+use Rattle.rb_base.specs.declared.script.Event.TheVariants as events
+use Rattle.rb_base.specs.declared.script.Mode.TheVariants.{EpochTrans}
+use Rattle.rb_base.specs.declared.script.SiteSetup.{SiteSetup}
+use Rattle.rb_base.specs.declared.script.Setup.{Setup}
+use Rattle.rb_text_defs.specs.declared.script.Limit.{Limit}
+use Rattle.rb_text_defs.specs.declared.script.Limit.TheVariants as limits
+use Rattle.rb_text_defs.specs.declared.script.ScriptKind.{ScriptKind}
+use Rattle.rb_text_defs.specs.declared.script.ScriptKind.TheVariants as kinds
+use Rattle.rb_text_defs.specs.declared.script.BadLine.{BadLine}
+use Rattle.rb_text_defs.specs.declared.script.LinedEvent.{LinedEvent}
 use Rattle.rb_text_defs.specs.declared.script.Script.{Script}
-use Rattle.rb_text_defs.specs.Words.{lines_of, words_of, number_of, is_name, all_of}
+use Rattle.rb_text_defs.specs.Words.{lines_of}
+use Rattle.rb_text_defs.specs.Form.{Operation, Form, SiteLine, TableLine, TxLine, EventLine, Reading, Wrong, Skipped, Says, reading_of}
 
 -- how many bytes a script has at most
 abbrev pub most_bytes : ℕ
@@ -15,49 +35,244 @@ most_bytes = 33554432
 abbrev pub most_lines : ℕ
 most_lines = 100000
 
--- how many transactions
-abbrev pub most_inserts : ℕ
-most_inserts = 400
+-- how many tables
+abbrev pub most_tables : ℕ
+most_tables = 32
 
--- the table's name in the words of `table NAME num`
-unfoldable pub table_of : List (List ℕ) → Option (List ℕ)
-table_of (first ∷ name ∷ type ∷ []) =
-    if bytes_eq first (codes "table") && is_name name && bytes_eq type (codes "num") then Some name else None
-table_of _ = None
+-- how many columns a table has besides its key
+abbrev pub most_columns : ℕ
+most_columns = 15
 
--- an insert of these two words' numbers, where both are numbers
-unfoldable pub insert_of : (key value : List ℕ) → Option Step
-insert_of key value = option_and_then (λ k. option_map (λ v. Insert k v) (number_of value)) (number_of key)
+-- how many bytes a row has
+abbrev pub most_row_bytes : ℕ
+most_row_bytes = 1000
 
--- the step in the words of a later line, in a script of the table with this name
-unfoldable pub step_of : (name : List ℕ) → List (List ℕ) → Option Step
-step_of name (what ∷ site ∷ []) =
-    if bytes_eq site (codes "A") && bytes_eq what (codes "epoch") then Some Close
-    else (if bytes_eq site (codes "A") && bytes_eq what (codes "log") then Some Log else None)
-step_of name (what ∷ site ∷ operation ∷ table ∷ key ∷ value ∷ []) =
-    if bytes_eq what (codes "tx") && bytes_eq site (codes "A") && bytes_eq operation (codes "ins") && bytes_eq table name
-    then insert_of key value else None
-step_of name _ = None
+-- how many node groups a site has, and how many nodes each of them
+abbrev pub most_groups : ℕ
+most_groups = 8
 
--- a step that is a transaction
-abbrev pub is_insert : Step → Bool
-is_insert (Insert key value) = true
-is_insert Close = false
-is_insert Log = false
+abbrev pub most_replicas : ℕ
+most_replicas = 4
 
--- a script of this table and these steps, where they are not too many
-abbrev pub within_limits : (name : List ℕ) → List Step → Option Script
-within_limits name steps =
-    if nat_le (1 + length steps) most_lines && nat_le (count_by is_insert steps) most_inserts
-    then Some (record { table = Some name; steps = steps }) else None
+-- the length in bytes from which a site's files are rotated, the only one for now
+abbrev pub default_limit : ℕ
+default_limit = 1048576
 
--- the script in these lines
-unfoldable pub script_of_lines : List (List ℕ) → Option Script
-script_of_lines [] = Some (record { table = None; steps = [] })
-script_of_lines (first ∷ later) =
-    option_and_then (λ name. option_and_then (within_limits name) (all_of (map (λ line. step_of name (words_of line)) later)))
-    (table_of (words_of first))
+-- how many changes a transaction has
+abbrev pub most_tx_changes : ℕ
+most_tx_changes = 4096
 
--- the script that these bytes are the text of, where they are legal
-unfoldable pub script_of : List ℕ → Option Script
-script_of bytes = if nat_le (length bytes) most_bytes then option_and_then script_of_lines (lines_of bytes) else None
+-- how many changes all transactions have, so that no file reaches the limit of rotation
+abbrev pub most_changes : ℕ
+most_changes = 400
+
+-- how much work a script is
+abbrev pub most_work : ℕ
+most_work = 4000000
+
+-- the first item of a list, where it has one
+abbrev pub first_of : {X : Type 0} → List X → Option X
+first_of [] = None
+first_of (item ∷ items) = Some item
+
+-- the table that a form declares
+abbrev pub table_in : Form → Option Schema
+table_in (SiteLine site groups replicas limit) = None
+table_in (TableLine name columns) = Some (record { name = name; columns = columns })
+table_in (TxLine site operations) = None
+table_in (EventLine event) = None
+
+-- the tables that forms declare, in order
+abbrev pub tables_in : List Form → List Schema
+tables_in forms = filter_map table_in forms
+
+-- the shape that a form gives site A
+abbrev pub shape_in : Form → Option SiteSetup
+shape_in (SiteLine site groups replicas limit) = Some (record { groups = groups; replicas = replicas; limit = limit })
+shape_in (TableLine name columns) = None
+shape_in (TxLine site operations) = None
+shape_in (EventLine event) = None
+
+-- a form is an event, and no part of the setup
+abbrev pub is_event : Form → Bool
+is_event (SiteLine site groups replicas limit) = false
+is_event (TableLine name columns) = false
+is_event (TxLine site operations) = true
+is_event (EventLine event) = true
+
+-- a value is of a column's type, and no longer than the column lets it be
+abbrev pub suits_column : Column → Value → Bool
+suits_column columns.Num (values.Num number) = true
+suits_column columns.Num (values.Text text) = false
+suits_column columns.Long value = false
+suits_column (columns.Text most) (values.Num number) = false
+suits_column (columns.Text most) (values.Text text) = nat_le (length text) most
+
+-- there is a value for each column, of its type
+abbrev pub suits_columns : List Column → List Value → Bool
+suits_columns [] [] = true
+suits_columns [] (value ∷ values) = false
+suits_columns (column ∷ columns) [] = false
+suits_columns (column ∷ columns) (value ∷ values) = suits_column column value && suits_columns columns values
+
+-- an operation has the values that these columns want, where it is no remove
+abbrev pub has_values : Op → List Column → List Value → Bool
+has_values Ins columns values = suits_columns columns values
+has_values Upd columns values = suits_columns columns values
+has_values Put columns values = suits_columns columns values
+has_values Del columns values = true
+
+-- an operation suits a table
+abbrev pub suits_table : Operation → Schema → Bool
+suits_table operation table = has_values operation.op table.columns operation.values
+
+-- the table of this name
+abbrev pub is_named : (name : List ℕ) → Schema → Bool
+is_named name table = bytes_eq table.name name
+
+-- an operation is one on a declared table
+abbrev pub suits_tables : List Schema → Operation → Bool
+suits_tables tables operation = option_map_or (suits_table operation) (find (is_named operation.table) tables) false
+
+-- a line does not fit the lines before it
+abbrev pub is_misplaced : (earlier : List Form) → Form → Bool
+is_misplaced earlier (SiteLine site groups replicas limit) = list_any is_event earlier || list_any (λ form. is_some (shape_in form)) earlier
+is_misplaced earlier (TableLine name columns) = list_any is_event earlier || list_any (is_named name) (tables_in earlier)
+is_misplaced earlier (TxLine site operations) = not (list_all (suits_tables (tables_in earlier)) operations)
+is_misplaced earlier (EventLine event) = false
+
+-- how many bytes a column takes in a row at most: a text has a length before it
+abbrev pub column_bytes : Column → ℕ
+column_bytes columns.Num = 8
+column_bytes columns.Long = 4
+column_bytes (columns.Text most) = most + (if nat_le most 255 then 1 else 2)
+
+-- how many bytes a row of a key and these columns has at most
+abbrev pub row_bytes : List Column → ℕ
+row_bytes columns = 8 + sum_by column_bytes columns
+
+-- how many changes a form is
+abbrev pub changes_in_form : Form → ℕ
+changes_in_form (SiteLine site groups replicas limit) = 0
+changes_in_form (TableLine name columns) = 0
+changes_in_form (TxLine site operations) = length operations
+changes_in_form (EventLine event) = 0
+
+-- how many epochs it closes
+abbrev pub closes_in_form : Form → ℕ
+closes_in_form (EventLine (events.Close site gci)) = 1
+closes_in_form form = 0
+
+-- how much work forms are
+abbrev pub work_of : List Form → ℕ
+work_of forms = sum_by changes_in_form forms + 32 * sum_by closes_in_form forms
+
+-- the limits that a form may pass, in the order in which they are judged, each with whether it passes it behind these earlier ones
+abbrev pub limits_of_form : (earlier : List Form) → Form → List (Bool × Limit)
+limits_of_form earlier (SiteLine site groups replicas limit) =
+    (not (nat_le 1 groups && nat_le groups most_groups), limits.Groups)
+    ∷ (not (nat_le 1 replicas && nat_le replicas most_replicas), limits.Replicas)
+    ∷ (not (limit == default_limit), limits.LogLimit) ∷ []
+limits_of_form earlier (TableLine name columns) =
+    (nat_lt most_tables (length (tables_in earlier) + 1), limits.Tables)
+    ∷ (nat_lt most_columns (length columns), limits.Columns)
+    ∷ (nat_lt most_row_bytes (row_bytes columns), limits.RowBytes) ∷ []
+limits_of_form earlier (TxLine site operations) =
+    (nat_lt most_tx_changes (length operations), limits.TxChanges)
+    ∷ (nat_lt most_changes (sum_by changes_in_form earlier + length operations), limits.Changes)
+    ∷ (nat_lt most_work (work_of earlier + length operations), limits.Work) ∷ []
+limits_of_form earlier (EventLine event) =
+    (nat_lt most_work (work_of earlier + 32 * closes_in_form (EventLine event)), limits.Work) ∷ []
+
+-- the first limit that the line of this number passes
+abbrev pub limit_passed : (earlier : List Form) → (number : ℕ) → Form → Option Limit
+limit_passed earlier number form =
+    option_map (λ judged. judged.1) (find (λ judged. judged.0) ((nat_lt most_lines number, limits.Lines) ∷ limits_of_form earlier form))
+
+-- a line of this number is refused for this
+abbrev pub bad_line : (number : ℕ) → ScriptKind → BadLine
+bad_line number kind = record { line = number; kind = kind }
+
+-- why the line of this number, which reads so, is refused behind these earlier ones
+abbrev pub refusal_of_line : (earlier : List Form) → (number : ℕ) → Reading → Option BadLine
+refusal_of_line earlier number Wrong = Some (bad_line number kinds.Syntax)
+refusal_of_line earlier number Skipped = if nat_lt most_lines number then Some (bad_line number (kinds.Limit limits.Lines)) else None
+refusal_of_line earlier number (Says form) =
+    if is_misplaced earlier form then Some (bad_line number kinds.Setup)
+    else option_map (λ limit. bad_line number (kinds.Limit limit)) (limit_passed earlier number form)
+
+-- the form that a line says
+abbrev pub form_in : Reading → Option Form
+form_in Wrong = None
+form_in Skipped = None
+form_in (Says form) = Some form
+
+-- the lines that are refused, in order, each behind those before it
+abbrev pub refused_lines : List Reading → List BadLine
+refused_lines readings =
+    filter_map (λ numbered. refusal_of_line (filter_map form_in (take numbered.0 readings)) (numbered.0 + 1) numbered.1)
+    (enumerate_from 0 readings)
+
+-- the number of the table of this name, from 1
+abbrev pub table_number : List Schema → (name : List ℕ) → ℕ
+table_number tables name = option_map_or (λ place. place + 1) (position (is_named name) tables) 0
+
+-- the row that an operation puts: the key before the values; a remove has none
+abbrev pub row_for : Op → (key : ℕ) → List Value → Option Row
+row_for Ins key others = Some (record { values = values.Num key ∷ others })
+row_for Upd key others = Some (record { values = values.Num key ∷ others })
+row_for Put key others = Some (record { values = values.Num key ∷ others })
+row_for Del key others = None
+
+-- an operation on the table that it names
+abbrev pub client_op : List Schema → Operation → ClientOp
+client_op tables operation = record {
+  op = operation.op;
+  table = table_number tables operation.table;
+  key = operation.key;
+  row = row_for operation.op operation.key operation.values;
+}
+
+-- the event that a form is, over these tables
+abbrev pub event_in : List Schema → Form → Option Event
+event_in tables (SiteLine site groups replicas limit) = None
+event_in tables (TableLine name columns) = None
+event_in tables (TxLine site operations) = Some (events.Tx site (map (client_op tables) operations))
+event_in tables (EventLine event) = Some event
+
+-- the shape of a site that no line gives
+abbrev pub default_site : SiteSetup
+default_site = record { groups = 1; replicas = 1; limit = default_limit }
+
+-- the setup that forms tell
+abbrev pub setup_of : List Form → Setup
+setup_of forms = record {
+  mode = EpochTrans;
+  a = option_map_or (λ shape. shape) (first_of (filter_map shape_in forms)) default_site;
+  b = default_site;
+  tables = tables_in forms;
+}
+
+-- the event of a line, with its number
+abbrev pub lined_event : List Schema → (number : ℕ) → Reading → Option LinedEvent
+lined_event tables number reading =
+    option_map (λ event. record { line = number; event = event }) (option_and_then (event_in tables) (form_in reading))
+
+-- the events that lines tell, over these tables
+abbrev pub events_of : List Schema → List Reading → List LinedEvent
+events_of tables readings = filter_map (λ numbered. lined_event tables (numbered.0 + 1) numbered.1) (enumerate_from 0 readings)
+
+-- the script that lines tell together
+abbrev pub script_in : List Reading → Script
+script_in readings =
+    let setup = setup_of (filter_map form_in readings) in record { setup = setup; events = events_of setup.tables readings }
+
+-- the script in lines that read so, or the first one that is refused
+unfoldable pub script_of_readings : List Reading → Result Script BadLine
+script_of_readings readings = option_map_or (λ bad. Err bad) (first_of (refused_lines readings)) (Ok (script_in readings))
+
+-- the script that these bytes are the text of, or its first bad line
+unfoldable pub script_of : List ℕ → Result Script BadLine
+script_of bytes =
+    if nat_lt most_bytes (length bytes) then Err (bad_line 0 (kinds.Limit limits.Bytes))
+    else script_of_readings (map reading_of (lines_of bytes))

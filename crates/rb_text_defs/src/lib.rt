@@ -6,4 +6,4 @@
 
 mod script;
 
-pub use script::{Script, Step, Steps};
+pub use script::{BadLine, Limit, LinedEvent, LinedEvents, Script, ScriptKind};

@@ -1,2 +1,4 @@
+pub mod LegalLaws
 pub mod Running
+pub mod TableLaws
 pub mod Topping

@@ -1,62 +1,193 @@
--- What a run that goes on, or stops, leaves of its log.
-use Rattle.std.proofs.Common.{◌≡◌, ◌≤◌, ◌<◌, ◌^◌, ◌-◌, ℕ, ◌+◌, List, [], ◌∷◌, length, take, drop, fold, get_or, refl, sym, ap, subst, ◌∙◌, arith, inl, inr}
-use Rattle.std.specs.Prelude.{Option}
+-- What a run that goes on, or stops, leaves of its log and of its report.
+use Rattle.std.proofs.Common.{◌≡◌, ℕ, ◌+◌, ◌*◌, ◌<◌, ◌≤◌, List, [], ◌∷◌, ◌++◌, length, fold, refl, sym, ap, subst, ◌∙◌, arith, inl, inr, append_assoc}
+use Rattle.std.specs.Prelude.{sum_by, codes}
+use Rattle.std.specs.List.{AllByRecursion, flat_map}
+use Rattle.std.proofs.lemmas.List.{append-nil, take_all, length-append}
+use Rattle.std.proofs.lemmas.List.Sums.{fold-append, sum_by-append, sum_by-cons}
+use Rattle.std.proofs.lemmas.Grind.{flat_map-append}
 use Rattle.rb_base.specs.declared.site.SiteId.TheVariants.{A}
-use Rattle.rb_log_defs.specs.File.{binlog_files}
-use Rattle.std.proofs.lemmas.List.{take_all, length-take}
-use Rattle.std.proofs.lemmas.List.Sums.{fold_more}
+use Rattle.rb_base.specs.declared.schema.Schema.{Schema}
 use Rattle.rb_base.specs.declared.body.EpochBody.{EpochBody}
+use Rattle.rb_base.specs.declared.script.Setup.{Setup}
+use Rattle.rb_base.specs.declared.script.Event.{Event}
+use Rattle.rb_base.specs.declared.script.Event.TheVariants as events
+use Rattle.rb_base.specs.declared.outcome.Outcome.{Outcome}
+use Rattle.rb_log_defs.specs.File.{binlog_files}
+use Rattle.rb_journal_defs.specs.Body.{Shape}
+use Rattle.rb_text_defs.specs.declared.script.LinedEvent.{LinedEvent}
 use Rattle.rb_text_defs.specs.declared.script.Script.{Script}
-use Rattle.rb_text_defs.specs.declared.script.Step.{Step}
-use Rattle.rb_text_defs.specs.declared.script.Step.TheVariants.{Log}
-use Rattle.rb_journal_defs.specs.Body.{completed_bodies}
-use Rattle.rb_play_defs.specs.Play.{Progress, happens, beginning, play, log_of, files_of, report_of, last_epoch, default_limit}
-use Rattle.rb_play_defs.proofs.Grows.{IsOrdered, Begins, logged_grows, ordered_more, counted, count_front, run_on}
+use Rattle.rb_text_defs.specs.Script.{default_limit}
+use Rattle.rb_text_defs.specs.Legal.{IsLegal, IsLegalEvent, changes_in_event}
+use Rattle.rb_text_defs.specs.Report.{outcome_line, log_line, table_lines, text_of_lines}
+use Rattle.rb_play_defs.specs.Step.{Progress, beginning, Stepped, written_bodies, last_epoch, deliver_all_step, inject_step, site_step}
+use Rattle.rb_play_defs.specs.Play.{shape_of, log_step, event_step, Played, played_on, not_played, play_of, play, log_of, tables_left, counts_of, report_of}
+use Rattle.rb_play_defs.specs.Sound.{IsSound}
+use Rattle.rb_play_defs.specs.declared.event.SiteEvent.TheVariants as happenings
+use Rattle.rb_play_defs.proofs.Grows.{Begins, goes_site, goes_on, goes}
+use Rattle.rb_play_defs.proofs.Counts.{changes_in_journal, counted}
+use Rattle.rb_print.proofs.ReportLaws.{report_pieces}
 use Rattle.rb_site.specs.declared.fault.SiteFault.{SiteFault}
 use Rattle.rb_site.specs.declared.site.Site.{Site}
 use Rattle.rb_site.specs.Fault.{LeavesLog, LeavesPart}
-use Rattle.rb_site.specs.Holding.{shape_with, logged_by}
-use Rattle.rb_site.specs.Site.{IsSite, drawn_of, opened_of}
+use Rattle.rb_site.specs.Site.{IsSite, opened_of, shape_of as site_shape}
 use Rattle.rb_site.proofs.Device.{leaves_log, part_of_more, least_of_fewer}
-use Rattle.rb_site.proofs.Steps.{written_within}
-use Rattle.rb_text_defs.specs.Report.{report_text}
-use Rattle.rb_top.specs.Run.{IsRunnable, IsLogOfScript}
+use Rattle.rb_site.proofs.TakeLaws.{leaves_first}
+use Rattle.rb_site.proofs.StandLaws.{made_is, drawn_is, opened_is}
+use Rattle.rb_top.specs.Run.{IsLogOfScript, HasRoomFor, turn_of, turn_step, joined, told}
+use Rattle.rb_top.specs.declared.play.Turn.{Turn}
+use Rattle.rb_top.proofs.LegalLaws.{operations_fit}
 
 -- a part of some bodies is a part of those that begin with them
-more_of : (least : ℕ) (first whole : List EpochBody) (file : List ℕ) (fault : SiteFault) → Begins first whole → LeavesLog least first file fault → LeavesLog least whole file fault
-more_of least first whole file fault more left =
-    subst (λ (bodies : List EpochBody). LeavesLog least bodies file fault) (sym more.whole_is) (part_of_more least first more.rest file fault left)
+more_of : (first whole : List EpochBody) (file : List ℕ) (fault : SiteFault) → Begins first whole → LeavesLog 0 first file fault → LeavesLog 0 whole file fault
+more_of first whole file fault more left =
+    subst (λ (bodies : List EpochBody). LeavesLog 0 bodies file fault) (sym more.whole_is) (part_of_more 0 first more.rest file fault left)
 
-is_ordered : (name : Option (List ℕ)) (site : Site) (file : List ℕ) (run : Progress) → IsSite name site file run → IsOrdered (shape_with name) run
-is_ordered name site file run is = record { below = is.stands.below; written = written_within name _ run is.stands }
+-- an event of a script does what it is for the site
+pub turn_is : (shape : Shape) (run : Progress) (event : Event) → turn_step shape run (turn_of event) ≡ event_step shape run event
+unfolding event_step site_step
+turn_is shape run (events.Tx id operations) = refl
+turn_is shape run (events.Close id gci) = refl
+turn_is shape run (events.Deliver id place) = refl
+turn_is shape run (events.DeliverAll id) = refl
+turn_is shape run (events.Inject id) = refl
+turn_is shape run (events.Log id) = refl
+turn_is shape run (events.Fail id node) = refl
+turn_is shape run (events.Restart id node) = refl
+turn_is shape run (events.Resend id) = refl
+turn_is shape run (events.Injector id) = refl
+turn_is shape run (events.Piece id number position count) = refl
+turn_is shape run (events.Pull id) = refl
+turn_is shape run (events.Apply id) = refl
+turn_is shape run (events.Flow id) = refl
+turn_is shape run (events.Applier id) = refl
+turn_is shape run (events.Dump id) = refl
+turn_is shape run events.Drain = refl
 
--- a step that stopped before it wrote leaves the log as it was
-pub unwritten : (name : Option (List ℕ)) (site : Site) (file : List ℕ) (run : Progress) (step : Step) (fault : SiteFault) → IsSite name site file run → LeavesLog run.written (logged_by name (happens (shape_with name) run step)) file fault
-unwritten name site file run step fault is =
-    more_of run.written (logged_by name run) (logged_by name (happens (shape_with name) run step)) file fault
-    (logged_grows (shape_with name) run (step ∷ []) (is_ordered name site file run is))
-    (leaves_log run.written (logged_by name run) (length (logged_by name run)) file fault (let count = is.stands.count in omega arith) (omega arith)
-    (ap (λ (bodies : List EpochBody). binlog_files A default_limit bodies) (take_all (length (logged_by name run)) (logged_by name run) (omega arith)) ∙ is.stands.file))
+-- the same, where it is known what it is for the site
+pub turn_as : (shape : Shape) (run : Progress) (event : Event) (turn : Turn) → turn ≡ turn_of event → turn_step shape run turn ≡ event_step shape run event
+turn_as shape run event turn is = ap (turn_step shape run) is ∙ turn_is shape run event
 
--- a log writes all completed bodies
-logs_all : (name : Option (List ℕ)) (run : Progress) → logged_by name (happens (shape_with name) run Log) ≡ completed_bodies (shape_with name) run.journal
-unfolding happens
-logs_all name run = take_all (length (completed_bodies (shape_with name) run.journal)) (completed_bodies (shape_with name) run.journal) (omega arith)
+-- what a step of a site told is told of the event
+pub stepped_as : (shape : Shape) (step other : Stepped) (new : Site) (file : List ℕ) (outcome : Outcome) → step ≡ other → IsSite shape new file step.run × (outcome ≡ step.outcome) → IsSite shape new file other.run × (outcome ≡ other.outcome)
+stepped_as shape step other new file outcome is held = subst (λ (s : Stepped). IsSite shape new file s.run × (outcome ≡ s.outcome)) is held
 
-pub stopped_in_log : (name : Option (List ℕ)) (run : Progress) (file : List ℕ) (fault : SiteFault) → LeavesLog run.written (completed_bodies (shape_with name) run.journal) file fault → LeavesLog run.written (logged_by name (happens (shape_with name) run Log)) file fault
-stopped_in_log name run file fault left = subst (λ (bodies : List EpochBody). LeavesLog run.written bodies file fault) (sym (logs_all name run)) left
+pub stopped_as : (shape : Shape) (least : ℕ) (step other : Stepped) (file : List ℕ) (fault : SiteFault) → step ≡ other → LeavesLog least (written_bodies shape step.run) file fault → LeavesLog 0 (written_bodies shape other.run) file fault
+stopped_as shape least step other file fault is left =
+    subst (λ (s : Stepped). LeavesLog 0 (written_bodies shape s.run) file fault) is (least_of_fewer least 0 (written_bodies shape step.run) file fault (omega arith) left)
 
--- where the first i steps of a script lead
-abbrev pub after : Script → ℕ → Progress
-after script i = fold (happens (shape_with script.table)) beginning (take i script.steps)
+-- `log` is the delivery of all messages, and the injector's turn behind it
+pub log_is : (shape : Shape) (run : Progress) →
+    log_step shape run ≡ record {
+      run = (site_step shape (site_step shape run happenings.DeliverAll).run happenings.Inject).run;
+      outcome = joined (site_step shape run happenings.DeliverAll).outcome (site_step shape (site_step shape run happenings.DeliverAll).run happenings.Inject).outcome;
+    }
+unfolding log_step site_step deliver_all_step inject_step
+log_is shape run = refl
 
-pub after_all : (script : Script) (i : ℕ) → length script.steps ≤ i → after script i ≡ play script
-unfolding play
-after_all script i all = ap (fold (happens (shape_with script.table)) beginning) (take_all i script.steps all)
+-- a `log` that stopped in its first half
+pub stopped_first : (shape : Shape) (run : Progress) (site : Site) (before file : List ℕ) (fault : SiteFault) → IsSite shape site before run → LeavesLog run.written (written_bodies shape (site_step shape run happenings.DeliverAll).run) file fault → LeavesLog 0 (written_bodies shape (log_step shape run).run) file fault
+stopped_first shape run site before file fault held left =
+    let next : Progress = (site_step shape run happenings.DeliverAll).run in
+    subst (λ (s : Stepped). LeavesLog 0 (written_bodies shape s.run) file fault) (sym (log_is shape run))
+    (more_of (written_bodies shape next) (written_bodies shape (site_step shape next happenings.Inject).run) file fault
+    (goes_site shape next happenings.Inject (goes_site shape run happenings.DeliverAll held.sound).sound).grows
+    (least_of_fewer run.written 0 (written_bodies shape next) file fault (omega arith) left))
 
-pub after_more : (script : Script) (i : ℕ) (step d : Step) → i < length script.steps → step ≡ get_or script.steps i d → happens (shape_with script.table) (after script i) step ≡ after script (i + 1)
-after_more script i step d within is =
-    ap (happens (shape_with script.table) (after script i)) is ∙ sym (fold_more (happens (shape_with script.table)) beginning script.steps i d within)
+-- and in its second
+pub stopped_second : (shape : Shape) (run : Progress) (file : List ℕ) (fault : SiteFault) → LeavesLog (site_step shape run happenings.DeliverAll).run.written (written_bodies shape (site_step shape (site_step shape run happenings.DeliverAll).run happenings.Inject).run) file fault → LeavesLog 0 (written_bodies shape (log_step shape run).run) file fault
+stopped_second shape run file fault left =
+    subst (λ (s : Stepped). LeavesLog 0 (written_bodies shape s.run) file fault) (sym (log_is shape run))
+    (least_of_fewer _ 0 _ file fault (omega arith) left)
+
+-- and one that was played
+pub logged_as : (shape : Shape) (run : Progress) (new : Site) (file : List ℕ) (first second outcome : Outcome) → first ≡ (site_step shape run happenings.DeliverAll).outcome →
+    IsSite shape new file (site_step shape (site_step shape run happenings.DeliverAll).run happenings.Inject).run × (second ≡ (site_step shape (site_step shape run happenings.DeliverAll).run happenings.Inject).outcome) →
+    outcome ≡ joined first second → IsSite shape new file (log_step shape run).run × (outcome ≡ (log_step shape run).outcome)
+logged_as shape run new file first second outcome delivered wrote is =
+    subst (λ (s : Stepped). IsSite shape new file s.run × (outcome ≡ s.outcome)) (sym (log_is shape run))
+    (wrote.0, is ∙ ap (λ o. joined o second) delivered ∙ ap (joined (site_step shape run happenings.DeliverAll).outcome) wrote.1)
+
+-- one event more is played
+pub play_more : (shape : Shape) (lined : List LinedEvent) (event : LinedEvent) → play_of shape (lined ++ event ∷ []) ≡ played_on shape (play_of shape lined) event
+unfolding play_of
+play_more shape lined event = fold-append (played_on shape) not_played lined (event ∷ [])
+
+-- the events behind one more
+pub whole_more : (all done rest later : List LinedEvent) (lined : LinedEvent) → all ≡ done ++ rest → rest ≡ lined ∷ later → all ≡ (done ++ lined ∷ []) ++ later
+whole_more all done rest later lined whole next = whole ∙ ap (λ (events : List LinedEvent). done ++ events) next ∙ sym (append_assoc done (lined ∷ []) later)
+
+-- the lines that tell events, and one more
+told_more : (outcomes : List (ℕ × Outcome)) (line : ℕ) (outcome : Outcome) → told (outcomes ++ (line, outcome) ∷ []) ≡ told outcomes ++ (outcome_line line outcome ++ 10 ∷ [])
+told_more outcomes line outcome =
+    flat_map-append (λ lined. outcome_line lined.0 lined.1 ++ 10 ∷ []) outcomes ((line, outcome) ∷ [])
+    ∙ ap (λ (text : List ℕ). told outcomes ++ text) (append-nil (outcome_line line outcome ++ 10 ∷ []))
+
+-- a site and the text at the start
+pub starts : (setup : Setup) (schemas : List Schema) (site : Site) (file : List ℕ) → schemas ≡ setup.tables → IsSite (site_shape schemas setup.a.groups setup.a.replicas) site file beginning → IsSite (shape_of setup) site file (play_of (shape_of setup) []).run
+unfolding play_of
+starts setup schemas site file same held = subst (λ (tables : List Schema). IsSite (site_shape tables setup.a.groups setup.a.replicas) site file beginning) same held
+
+pub told_nothing : (shape : Shape) (text : List ℕ) → text ≡ text ++ told (play_of shape []).outcomes
+unfolding play_of
+told_nothing shape text = sym (append-nil text)
+
+-- and an event later
+pub stands_more : (shape : Shape) (lined : List LinedEvent) (event : LinedEvent) (new : Site) (file : List ℕ) → IsSite shape new file (event_step shape (play_of shape lined).run event.event).run → IsSite shape new file (play_of shape (lined ++ event ∷ [])).run
+stands_more shape lined event new file held = subst (λ (played : Played). IsSite shape new file played.run) (sym (play_more shape lined event)) held
+
+pub text_more : (shape : Shape) (lined : List LinedEvent) (event : LinedEvent) (outcome : Outcome) (start text : List ℕ) → outcome ≡ (event_step shape (play_of shape lined).run event.event).outcome → text ≡ start ++ told (play_of shape lined).outcomes → text ++ (outcome_line event.line outcome ++ 10 ∷ []) ≡ start ++ told (play_of shape (lined ++ event ∷ [])).outcomes
+text_more shape lined event outcome start text is so_far =
+    ap (λ (t : List ℕ). t ++ (outcome_line event.line outcome ++ 10 ∷ [])) so_far
+    ∙ append_assoc start (told (play_of shape lined).outcomes) (outcome_line event.line outcome ++ 10 ∷ [])
+    ∙ ap (λ (t : List ℕ). start ++ t)
+    (ap (λ o. told (play_of shape lined).outcomes ++ (outcome_line event.line o ++ 10 ∷ [])) is
+    ∙ sym (told_more (play_of shape lined).outcomes event.line (event_step shape (play_of shape lined).run event.event).outcome)
+    ∙ ap (λ (played : Played). told played.outcomes) (sym (play_more shape lined event)))
+
+-- what holds of all holds of those behind the first
+all_behind : {X : Type 0} (P : X → Type 0) (xs ys : List X) → AllByRecursion P (xs ++ ys) → AllByRecursion P ys
+all_behind P [] ys all = all
+all_behind P (x ∷ xs) ys all = all_behind P xs ys all.1
+
+-- the room that an event needs is there
+room_here : (script : Script) (site : Site) (file : List ℕ) (run : Progress) (event : Event) (done : List LinedEvent) → IsSite (shape_of script.setup) site file run → IsLegalEvent script.setup.tables event → run.drawn ≤ length done → run.opened ≤ 4294967296 + 4294967296 * length done →
+    changes_in_journal (shape_of script.setup) run.journal + changes_in_event event ≤ 400 → length done < 100000 → HasRoomFor (shape_of script.setup) site event
+room_here script site file run (events.Tx id operations) done held legal drawn opened changes few = record {
+  fit = operations_fit script.setup.tables operations legal.1;
+  room = (let made = made_is (shape_of script.setup) site file run held in omega arith);
+  number = (let same = drawn_is (shape_of script.setup) site file run held in omega arith);
+}
+room_here script site file run (events.Close id gci) done held legal drawn opened changes few = let same : opened_of site ≡ run.opened = opened_is (shape_of script.setup) site file run held in omega arith
+room_here script site file run (events.Deliver id place) done held legal drawn opened changes few = tt
+room_here script site file run (events.DeliverAll id) done held legal drawn opened changes few = tt
+room_here script site file run (events.Inject id) done held legal drawn opened changes few = tt
+room_here script site file run (events.Log id) done held legal drawn opened changes few = tt
+room_here script site file run (events.Fail id node) done held legal drawn opened changes few = tt
+room_here script site file run (events.Restart id node) done held legal drawn opened changes few = tt
+room_here script site file run (events.Resend id) done held legal drawn opened changes few = tt
+room_here script site file run (events.Injector id) done held legal drawn opened changes few = tt
+room_here script site file run (events.Piece id number position count) done held legal drawn opened changes few = tt
+room_here script site file run (events.Pull id) done held legal drawn opened changes few = tt
+room_here script site file run (events.Apply id) done held legal drawn opened changes few = tt
+room_here script site file run (events.Flow id) done held legal drawn opened changes few = tt
+room_here script site file run (events.Applier id) done held legal drawn opened changes few = tt
+room_here script site file run (events.Dump id) done held legal drawn opened changes few = tt
+room_here script site file run events.Drain done held legal drawn opened changes few = tt
+
+pub room_for : (script : Script) (site : Site) (file : List ℕ) (done : List LinedEvent) (lined : LinedEvent) (rest : List LinedEvent) → IsLegal script → script.events ≡ done ++ (lined ∷ rest) → IsSite (shape_of script.setup) site file (play_of (shape_of script.setup) done).run → HasRoomFor (shape_of script.setup) site lined.event
+unfolding play_of
+room_for script site file done lined rest legal is held =
+    let shape = shape_of script.setup in
+    let counts = counted shape not_played done in
+    let there = all_behind (λ (l : LinedEvent). IsLegalEvent script.setup.tables l.event) done (lined ∷ rest) (subst (AllByRecursion (λ (l : LinedEvent). IsLegalEvent script.setup.tables l.event)) is legal.events) in
+    let many : length script.events ≡ length done + length (lined ∷ rest) = ap length is ∙ length-append done (lined ∷ rest) in
+    let changes : sum_by (λ (l : LinedEvent). changes_in_event l.event) script.events ≡ sum_by (λ (l : LinedEvent). changes_in_event l.event) done + (changes_in_event lined.event + sum_by (λ (l : LinedEvent). changes_in_event l.event) rest) =
+    ap (sum_by (λ (l : LinedEvent). changes_in_event l.event)) is ∙ sum_by-append (λ (l : LinedEvent). changes_in_event l.event) done (lined ∷ rest)
+    ∙ ap (λ n. sum_by (λ (l : LinedEvent). changes_in_event l.event) done + n) (sum_by-cons (λ (l : LinedEvent). changes_in_event l.event) lined rest) in
+    room_here script site file (play_of shape done).run lined.event done held there.0
+    (let h = counts.drawn in omega arith) (let h = counts.opened in omega arith)
+    (let h = counts.changes_are in let few = legal.few_changes in omega arith)
+    (let few = legal.few_events in omega arith)
 
 -- a log that was not begun, or that holds no body, is a part of any
 pub unbegun : (bodies : List EpochBody) (file : List ℕ) (fault : SiteFault) → file ≡ [] → LeavesPart bodies file fault
@@ -66,54 +197,65 @@ pub part_of_any : (bodies : List EpochBody) (file : List ℕ) (fault : SiteFault
 part_of_any bodies file fault (inl left) = inl left
 part_of_any bodies file fault (inr left) = inr (part_of_more 0 [] bodies file fault left)
 
--- a step that stopped leaves a part of the whole log
-pub stopped_in_step : (script : Script) (site : Site) (i : ℕ) (step d : Step) (before file : List ℕ) (fault : SiteFault) → i < length script.steps → step ≡ get_or script.steps i d → IsSite script.table site before (after script i) → LeavesLog (after script i).written (logged_by script.table (happens (shape_with script.table) (after script i) step)) file fault → LeavesPart (log_of script) file fault
-unfolding play
-stopped_in_step script site i step d before file fault within is stands left =
-    let next : Progress = happens (shape_with script.table) (after script i) step in
-    let ends : fold (happens (shape_with script.table)) next (drop (i + 1) script.steps) ≡ play script =
-    ap (λ (run : Progress). fold (happens (shape_with script.table)) run (drop (i + 1) script.steps)) (after_more script i step d within is) ∙ run_on (shape_with script.table) script.steps (i + 1) in
-    let more : Begins (logged_by script.table next) (logged_by script.table (play script)) =
-    subst (λ (run : Progress). Begins (logged_by script.table next) (logged_by script.table run)) ends
-    (logged_grows (shape_with script.table) next (drop (i + 1) script.steps) (ordered_more (shape_with script.table) (after script i) step (is_ordered script.table site before (after script i) stands))) in
-    inr (least_of_fewer (after script i).written 0 (log_of script) file fault (omega arith) (more_of (after script i).written (logged_by script.table next) (log_of script) file fault more left))
+-- the bodies written so far are the first of those that the script writes
+pub begins_whole : (script : Script) (played : Played) (done rest : List LinedEvent) → script.events ≡ done ++ rest → play_of (shape_of script.setup) done ≡ played → IsSound (shape_of script.setup) played.run → Begins (written_bodies (shape_of script.setup) played.run) (log_of script)
+unfolding play_of
+begins_whole script played done rest is so_far sound =
+    let shape = shape_of script.setup in
+    let ends : fold (played_on shape) played rest ≡ play script =
+    ap (λ (p : Played). fold (played_on shape) p rest) (sym so_far) ∙ sym (fold-append (played_on shape) not_played done rest) ∙ ap (fold (played_on shape) not_played) (sym is) in
+    subst (λ (p : Played). Begins (written_bodies shape played.run) (written_bodies shape p.run)) ends (goes_on shape played rest sound).grows
 
--- the bounds of a run
-pub few_drawn : (script : Script) (site : Site) (file : List ℕ) (i : ℕ) → IsRunnable script → IsSite script.table site file (after script i) → drawn_of site ≤ 400
-few_drawn script site file i runnable is =
-    let counts = counted (shape_with script.table) beginning (take i script.steps) in
-    let drawn = counts.drawn in
-    let front = count_front script.steps i in
-    let inserts = runnable.inserts in
-    let same = is.stands.drawn in
-    omega arith
+-- a run that stopped in an event
+pub stopped_in : (script : Script) (site : Site) (before file : List ℕ) (fault : SiteFault) (done : List LinedEvent) (lined : LinedEvent) (rest : List LinedEvent) → script.events ≡ (done ++ lined ∷ []) ++ rest → IsSite (shape_of script.setup) site before (play_of (shape_of script.setup) done).run →
+    LeavesLog 0 (written_bodies (shape_of script.setup) (event_step (shape_of script.setup) (play_of (shape_of script.setup) done).run lined.event).run) file fault → LeavesPart (log_of script) file fault
+stopped_in script site before file fault done lined rest is held left =
+    let shape = shape_of script.setup in
+    let next : Progress = (event_step shape (play_of shape done).run lined.event).run in
+    inr (more_of (written_bodies shape next) (log_of script) file fault
+    (begins_whole script (played_on shape (play_of shape done) lined) (done ++ lined ∷ []) rest is (play_more shape done lined) (goes shape (play_of shape done).run lined.event held.sound).sound) left)
 
-pub few_opened : (script : Script) (site : Site) (file : List ℕ) (i : ℕ) → IsRunnable script → IsSite script.table site file (after script i) → opened_of site < 2 ^ 64 - 1
-few_opened script site file i runnable is =
-    let counts = counted (shape_with script.table) beginning (take i script.steps) in
-    let opened = counts.opened in
-    let front = length-take i script.steps in
-    let steps = runnable.steps in
-    let same = is.stands.opened in
-    omega arith
+-- a run that stopped behind some of its events
+pub stopped_behind : (script : Script) (site : Site) (file : List ℕ) (fault : SiteFault) (done rest : List LinedEvent) → script.events ≡ done ++ rest → IsSite (shape_of script.setup) site file (play_of (shape_of script.setup) done).run → LeavesPart (log_of script) file fault
+stopped_behind script site file fault done rest is held =
+    let shape = shape_of script.setup in
+    inr (least_of_fewer (play_of shape done).run.written 0 (log_of script) file fault (omega arith)
+    (leaves_first shape site file (play_of shape done).run (log_of script) fault held (begins_whole script (play_of shape done) done rest is refl held.sound)))
 
 -- the whole of a run
-pub one_log : (script : Script) (site : Site) (file : List ℕ) → IsSite script.table site file (play script) → IsLogOfScript script file
-unfolding play
-one_log script site file is = is.stands.file
+pub whole_behind : (script : Script) (site : Site) (file : List ℕ) (fault : SiteFault) → IsSite (shape_of script.setup) site file (play script).run → LeavesPart (log_of script) file fault
+whole_behind script site file fault held = stopped_behind script site file fault script.events [] (sym (append-nil script.events)) held
 
-pub whole_log : (script : Script) (file : List ℕ) (fault : SiteFault) → IsLogOfScript script file → LeavesPart (log_of script) file fault
-whole_log script file fault log =
+pub one_log : (script : Script) (site : Site) (file : List ℕ) → IsLegal script → IsSite (shape_of script.setup) site file (play script).run → IsLogOfScript script file
+one_log script site file legal held = ap (λ (limit : ℕ). binlog_files A limit (log_of script)) legal.limit ∙ held.log
+
+pub whole_log : (script : Script) (file : List ℕ) (fault : SiteFault) → IsLegal script → IsLogOfScript script file → LeavesPart (log_of script) file fault
+whole_log script file fault legal log =
     inr (leaves_log 0 (log_of script) (length (log_of script)) file fault (omega arith) (omega arith)
-    (ap (λ (bodies : List EpochBody). binlog_files A default_limit bodies) (take_all (length (log_of script)) (log_of script) (omega arith)) ∙ log))
+    (ap (λ (bodies : List EpochBody). binlog_files A default_limit bodies) (take_all (length (log_of script)) (log_of script) (omega arith))
+    ∙ ap (λ (limit : ℕ). binlog_files A limit (log_of script)) (sym legal.limit) ∙ log))
 
-pub whole_part : (script : Script) (site : Site) (file : List ℕ) (fault : SiteFault) → IsSite script.table site file (play script) → LeavesPart (log_of script) file fault
-whole_part script site file fault is = whole_log script file fault (one_log script site file is)
+-- the line of a log of so many files
+abbrev pub log_text : Script → (files : ℕ) → List ℕ
+log_text script files = log_line A files (length (log_of script)) (last_epoch (log_of script)) ++ 10 ∷ []
+
+five : (a b c d e : List ℕ) → (((a ++ b) ++ c) ++ d) ++ e ≡ a ++ (b ++ (c ++ (d ++ e)))
+five a b c d e = simp append_assoc
 
 -- the report of a run whose log is one file
-pub report_is : (script : Script) (site : Site) (file : List ℕ) (epochs last : ℕ) → IsSite script.table site file (play script) → epochs ≡ length (log_of script) → last ≡ last_epoch (log_of script) → report_text 1 epochs last ≡ report_of script
+pub report_is : (script : Script) (file title text log tables end : List ℕ) → IsLogOfScript script file → title ≡ text_of_lines (codes "ndb replication report" ∷ []) →
+    text ≡ title ++ told (play script).outcomes → log ≡ text ++ log_text script 1 →
+    tables ≡ log ++ flat_map (λ table. text_of_lines (table_lines A table)) (tables_left script.setup.tables (play script).run.journal) →
+    end ≡ tables ++ text_of_lines (codes "end" ∷ []) → end ≡ report_of script
 unfolding report_of
-report_is script site file epochs last is epochs_are last_is =
-    ap (λ (files : ℕ). report_text files epochs last) (sym (ap length (one_log script site file is)))
-    ∙ ap (λ n. report_text (length (files_of script)) n last) epochs_are
-    ∙ ap (λ n. report_text (length (files_of script)) (length (log_of script)) n) last_is
+report_is script file title text log tables end one title_is text_is log_is tables_is end_is =
+    let head : List ℕ = text_of_lines (codes "ndb replication report" ∷ []) in
+    let lines : List ℕ = told (play script).outcomes in
+    let last : List ℕ = text_of_lines (codes "end" ∷ []) in
+    let rows : List ℕ = flat_map (λ table. text_of_lines (table_lines A table)) (tables_left script.setup.tables (play script).run.journal) in
+    end_is ∙ ap (λ (t : List ℕ). t ++ last) tables_is ∙ ap (λ (t : List ℕ). (t ++ rows) ++ last) log_is
+    ∙ ap (λ (t : List ℕ). ((t ++ log_text script 1) ++ rows) ++ last) text_is
+    ∙ ap (λ (t : List ℕ). (((t ++ lines) ++ log_text script 1) ++ rows) ++ last) title_is
+    ∙ five head lines (log_text script 1) rows last
+    ∙ ap (λ (files : ℕ). head ++ (lines ++ (log_text script files ++ (rows ++ last)))) (sym (ap length one))
+    ∙ sym (report_pieces (play script).outcomes (counts_of script.setup.a.limit (log_of script)) (tables_left script.setup.tables (play script).run.journal))

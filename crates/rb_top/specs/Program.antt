@@ -1,5 +1,5 @@
 -- What the program's call says at each status.
-use Rattle.std.specs.Prelude.{◌≡◌, ℕ, ◌⊎◌, Bool, false, List, [], ◌∷◌, Option, Some, IfSome, codes}
+use Rattle.std.specs.Prelude.{◌≡◌, ℕ, ◌⊎◌, Bool, false, List, [], ◌∷◌, Option, Ok, IfSome, codes}
 use Rattle.std.specs.Str.{bytes_eq}
 use Rattle.std.specs.Io.KnownBytes.{Appends, Keeps, IsAtEnd}
 use Rattle.rb_io.specs.Prefix.{GrowsByPrefix}
@@ -15,11 +15,6 @@ use Rattle.rb_top.specs.declared.status.Status.TheVariants as statuses
 abbrev pub are_run : List (List ℕ) → Bool
 are_run (word ∷ []) = bytes_eq word (codes "run")
 are_run words = false
-
--- the script was refused
-abbrev pub IsBadScript : Status → Type 0
-IsBadScript (statuses.BadScript line kind) = Unit {0}
-IsBadScript status = ⊥
 
 -- a device failed
 abbrev pub IsDiskFault : Status → Type 0
@@ -39,14 +34,9 @@ IsRunFault (statuses.DiskFault site) = Unit {0}
 IsRunFault statuses.WriteFault = Unit {0}
 IsRunFault status = ⊥
 
--- what a script that is not legal may be answered
-abbrev pub IsNotRun : Status → Type 0
-IsNotRun statuses.NoMemory = Unit {0}
-IsNotRun status = IsBeforeRun status
-
 -- the script that these bytes are the text of, where the source tells its bytes
 abbrev pub IsReadFrom : Option (List ℕ) → Script → Type 0
-IsReadFrom left script = IfSome left (λ bytes. script_of bytes ≡ Some script)
+IsReadFrom left script = IfSome left (λ bytes. script_of bytes ≡ Ok script)
 
 -- the whole of a script was read and run: the report was appended to the sink, and the file is the log
 pub record HasRun (left_old left_new held_old held_new : Option (List ℕ)) (file : List ℕ) : Type 0 where

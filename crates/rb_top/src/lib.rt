@@ -4,6 +4,7 @@
 //! Below stand the parser, the site, the printer, and the edges; the program's `main` stands above.
 #![tactic(auto)]
 
+mod play;
 mod program;
 mod run;
 mod status;

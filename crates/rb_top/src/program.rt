@@ -1,7 +1,9 @@
-ghost use Rattle.std.specs.Prelude.{◌≡◌, ◌≢◌, ◌↔◌, ◌⊎◌, ℕ, List, [], Some, None, Bool, true, false, IfSome, is_some};
+ghost use Rattle.std.specs.Prelude.{◌≡◌, ◌≢◌, ◌↔◌, ◌⊎◌, ℕ, List, [], Some, Ok, Err, Bool, true, false, IfSome};
 ghost use Rattle.rb_base.specs.Faults.{Rose};
+ghost use Rattle.rb_text_defs.specs.declared.script.BadLine.{BadLine};
+ghost use Rattle.rb_text_defs.specs.declared.script.Script.{Script};
 ghost use Rattle.rb_text_defs.specs.Script.{script_of};
-ghost use Rattle.rb_top.specs.Program.{are_run, IsBadScript, IsDiskFault, IsBeforeRun, IsRunFault, IsNotRun, HasRun, HasStopped, IsUntouched};
+ghost use Rattle.rb_top.specs.Program.{are_run, IsDiskFault, IsBeforeRun, IsRunFault, HasRun, HasStopped, IsUntouched};
 
 use crate::run::run;
 use crate::status::Status;
@@ -9,7 +11,7 @@ use crate::words::are_run_words;
 use rb_base::{Bytes, OutFault, SiteId};
 use rb_disk::LogDisk;
 use rb_io::{ReadAllFault, Sink, Source, read_all, write_all};
-use rb_script::{MOST_SCRIPT_BYTES, ParseFault, ScriptKind, parse};
+use rb_script::{Limit, MOST_SCRIPT_BYTES, ParseFault, ScriptKind, parse};
 use rb_site::SiteFault;
 use std::alloc::Global;
 use std::thread::Threads;
@@ -30,15 +32,15 @@ pub fn top<R: Threads + Sync, I: Source, O: Sink, D: LogDisk>(
     requires b_is_empty { (file : ℕ) → D.seen _disk_b.old file ≡ [] }
 
     // The headline: at Done the script was read to its end, the sink grew by its report, and file 1 of site A is the binlog
-    // file of the completed epochs that were closed before the last `log A`.
+    // file of the epochs that its injector took and that have something to log.
     ensures run_meets_headline { result ≡ Status.Done →
         HasRun (I.left script.old) (I.left script.new) (O.held out.old) (O.held out.new) (D.seen disk_a.new 1) }
     ensures no_other_file_changes { (file : ℕ) → file ≢ 1 → D.seen disk_a.new file ≡ D.seen disk_a.old file }
     ensures site_b_is_untouched { _disk_b.new ≡ _disk_b.old }
 
     // A legal script over empty devices is run, unless memory runs out or an object fails.
-    ensures a_legal_script_is_run { (bytes : List ℕ) → are_run words.now ≡ true → I.left script.old ≡ Some bytes →
-        is_some (script_of bytes) ≡ true →
+    ensures a_legal_script_is_run { (bytes : List ℕ) (legal : Script) → are_run words.now ≡ true → I.left script.old ≡ Some bytes →
+        script_of bytes ≡ Ok legal →
         (Rose (I.fault_count script.old) (I.fault_count script.new) → ⊥) →
         (Rose (O.fault_count out.old) (O.fault_count out.new) → ⊥) →
         (Rose (D.fault_count disk_a.old) (D.fault_count disk_a.new) → ⊥) →
@@ -46,9 +48,11 @@ pub fn top<R: Threads + Sync, I: Source, O: Sink, D: LogDisk>(
 
     // When each other status comes.
     ensures usage_exactly { (result ≡ Status.Usage) ↔ (are_run words.now ≡ false) }
-    ensures bad_script_is_illegal { IsBadScript result → IfSome (I.left script.old) (λ bytes. script_of bytes ≡ None) }
-    ensures an_illegal_script_is_not_run { (bytes : List ℕ) → I.left script.old ≡ Some bytes → script_of bytes ≡ None → IsNotRun result }
-    ensures bad_script_is_named { IsBadScript result → result ≡ Status.BadScript 0 ScriptKind.Syntax }
+    ensures bad_script_names_the_first_bad_line { (line : ℕ) (kind : ScriptKind) → result ≡ Status.BadScript line kind →
+        IfSome (I.left script.old) (λ bytes. script_of bytes ≡ Err (record { line = line; kind = kind })) }
+    ensures a_bad_script_is_refused { (bytes : List ℕ) (bad : BadLine) → are_run words.now ≡ true → I.left script.old ≡ Some bytes →
+        script_of bytes ≡ Err bad →
+        (result ≡ Status.BadScript bad.line bad.kind) ⊎ (result ≡ Status.ReadFault) ⊎ (result ≡ Status.NoMemory) }
     ensures read_fault_has_cause { result ≡ Status.ReadFault → Rose (I.fault_count script.old) (I.fault_count script.new) }
     ensures write_fault_has_cause { result ≡ Status.WriteFault → Rose (O.fault_count out.old) (O.fault_count out.new) }
     ensures disk_fault_has_cause { IsDiskFault result → Rose (D.fault_count disk_a.old) (D.fault_count disk_a.new) }
@@ -71,7 +75,7 @@ pub fn top<R: Threads + Sync, I: Source, O: Sink, D: LogDisk>(
         Err(ReadAllFault::TooLong) => {
             return Status::BadScript {
                 line: 0,
-                kind: ScriptKind::Syntax,
+                kind: ScriptKind::Limit(Limit::Bytes),
             };
         }
         Err(ReadAllFault::Failed) => return Status::ReadFault,
@@ -82,7 +86,7 @@ pub fn top<R: Threads + Sync, I: Source, O: Sink, D: LogDisk>(
         Err(ParseFault::Bad { line, kind }) => return Status::BadScript { line, kind },
         Err(ParseFault::NoMemory) => return Status::NoMemory,
     };
-    let report = match run(alloc, &parsed, disk_a) {
+    let report = match run(alloc, parsed, disk_a) {
         Ok(report) => report,
         Err(SiteFault::DiskFault) => return Status::DiskFault { site: SiteId::A },
         Err(SiteFault::NoMemory) => return Status::NoMemory,

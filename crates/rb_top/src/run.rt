@@ -1,92 +1,73 @@
-ghost use Rattle.std.specs.Prelude.{◌≡◌, ◌≢◌, ℕ, ◌<◌, ◌≤◌, ◌^◌, ◌-◌, List, [], length, count_by, IfOk, IfErr, OnOk, IsSome, IsNone, Option};
-ghost use Rattle.std.specs.Option.{option_to_list};
-ghost use Rattle.rb_text_defs.specs.Script.{is_insert};
-ghost use Rattle.rb_play_defs.specs.Play.{Progress, happens, play, tables_of, log_of, report_of};
-ghost use Rattle.rb_site.specs.Fault.{HasDiskCause, LeavesLog, LeavesPart};
-ghost use Rattle.rb_site.specs.Holding.{shape_with, logged_by, IsShortName};
-ghost use Rattle.rb_site.specs.Site.{IsSite, Stands, drawn_of, opened_of};
-ghost use Rattle.rb_top.specs.Run.{IsRunnable, IsLogOfScript};
+ghost use Rattle.std.specs.Prelude.{◌≡◌, ◌≢◌, ℕ, ◌<◌, ◌^◌, ◌++◌, ◌∷◌, [], List, length, IfOk, IfErr, OnOk};
+ghost use Rattle.std.specs.List.{flat_map};
+ghost use Rattle.rb_base.specs.declared.site.SiteId.TheVariants.{A};
+ghost use Rattle.rb_journal_defs.specs.Journal.{Journal, row_at};
+ghost use Rattle.rb_journal_defs.specs.Body.{Shape};
+ghost use Rattle.rb_store.specs.Tables.{rows_in};
+ghost use Rattle.rb_text_defs.specs.Report.{log_line, table_lines, text_of_lines};
+ghost use Rattle.rb_text_defs.specs.Legal.{IsLegal};
+ghost use Rattle.rb_play_defs.specs.Step.{Progress, last_epoch, written_bodies};
+ghost use Rattle.rb_play_defs.specs.Play.{tables_left, log_of, report_of};
+ghost use Rattle.rb_site.specs.Fault.{HasDiskCause, LeavesPart};
+ghost use Rattle.rb_site.specs.Site.{IsSite};
+ghost use Rattle.rb_top.specs.Run.{IsLogOfScript};
 
-use rb_base::{Bytes, Column, Columns, Mapped};
+use crate::play::play;
+use rb_base::{Bytes, NoMemory, Schema, SiteId};
 use rb_disk::LogDisk;
-use rb_print::print_report;
-use rb_script::{Script, Step};
+use rb_print::{print_log, print_table};
+use rb_script::Script;
 use rb_site::{Site, SiteFault};
+use rb_store::Tables;
 use std::alloc::Global;
 
-/// The schema of user tables.
-const SCHEMA: [u8; 2] = *b"db";
-
-// The table that a script declares, as the log names it.
-fn table_of(alloc: Global, name: &Option<Bytes>) -> Result<Option<Mapped>, SiteFault>
-    ensures ok { IfOk result (λ table. option_to_list table ≡ tables_of name.now) }
-    ensures memory { IfErr result (λ fault. fault ≡ SiteFault.NoMemory) }
-{
-    let Some(name) = name else {
-        return Ok(None);
-    };
-    let mut columns = Columns::new(alloc);
-    columns.push(Column::Num)?;
-    columns.push(Column::Num)?;
-    Ok(Some(Mapped {
-        id: 1,
-        schema: Bytes::from_vec(Vec::from_slice(alloc, &SCHEMA)?),
-        name: name.copy(alloc)?,
-        columns,
-    }))
-}
-
-// Does one step at the site.
-fn do_step<D: LogDisk>(
+/// Runs a script and answers its report.
+pub(crate) fn run<D: LogDisk>(
     alloc: Global,
-    site: &mut Site,
-    step: Step,
+    script: Script,
     disk: &mut D,
-) -> Result<(), SiteFault>
-    requires stands { Stands site.old (D.seen disk.old 1) }
-    requires drawn { drawn_of site.old ≤ 400 }
-    requires opened { opened_of site.old < 2 ^ 64 - 1 }
-    ensures ok { OnOk result ((name : Option (List ℕ)) (run : Progress) → IsSome name →
-        IsSite name site.old (D.seen disk.old 1) run → IsSite name site.new (D.seen disk.new 1) (happens (shape_with name) run step)) }
-    ensures err { IfErr result (λ fault. (name : Option (List ℕ)) (run : Progress) →
-        IsSite name site.old (D.seen disk.old 1) run → LeavesLog run.written (logged_by name (happens (shape_with name) run step)) (D.seen disk.new 1) fault) }
+) -> Result<Bytes, SiteFault>
+    requires legal { IsLegal script }
+    requires empty { D.seen disk.old 1 ≡ [] }
+    ensures ok { IfOk result (λ report. (report ≡ report_of script) × IsLogOfScript script (D.seen disk.new 1)) }
+    ensures err { IfErr result (LeavesPart (log_of script) (D.seen disk.new 1)) }
     ensures others { (other : ℕ) → other ≢ 1 → D.seen disk.new other ≡ D.seen disk.old other }
     ensures cause { HasDiskCause (D.fault_count disk.old) (D.fault_count disk.new) result }
 {
-    match step {
-        Step::Insert { key, value } => site.insert(alloc, key, value)?,
-        Step::Close => site.close(alloc)?,
-        Step::Log => site.log(alloc, disk)?,
-    }
+    let Script { setup, events } = script;
+    let mut text = Vec::from_slice(alloc, b"ndb replication report\n")?;
+    let site = play(alloc, &setup, events, &mut text, disk)?;
+    put_log(alloc, &mut text, &site)?;
+    put_tables(alloc, &mut text, setup.tables.as_slice(), site.tables())?;
+    text.extend_from_slice(b"end\n")?;
+    Ok(Bytes::from_vec(text))
+}
+
+// Appends the line on a site's log, which is one file.
+fn put_log(alloc: Global, text: &mut Vec<u8>, site: &Site) -> Result<(), NoMemory>
+    ensures { OnOk result ((shape : Shape) (file : List ℕ) (run : Progress) → IsSite shape site.now file run →
+        text.new.items ≡ text.old.items ++ (log_line A 1 (length (written_bodies shape run)) (last_epoch (written_bodies shape run)) ++ 10 ∷ [])) }
+{
+    let line = print_log(alloc, SiteId::A, 1, site.written(), site.last_written())?;
+    text.extend_from_slice(line.as_slice())?;
     Ok(())
 }
 
-// Does the steps of a script in turn, over a device whose log file is empty.
-fn run_steps<D: LogDisk>(alloc: Global, script: &Script, disk: &mut D) -> Result<Site, SiteFault>
-    requires runnable { IsRunnable script.now }
-    requires empty { D.seen disk.old 1 ≡ [] }
-    ensures ok { IfOk result (λ site. IsSite script.now.table site (D.seen disk.new 1) (play script.now)) }
-    ensures err { IfErr result (LeavesPart (log_of script.now) (D.seen disk.new 1)) }
-    ensures others { (other : ℕ) → other ≢ 1 → D.seen disk.new other ≡ D.seen disk.old other }
-    ensures cause { HasDiskCause (D.fault_count disk.old) (D.fault_count disk.new) result }
+// Appends the lines of a site's tables.
+fn put_tables(
+    alloc: Global,
+    text: &mut Vec<u8>,
+    schemas: &[Schema],
+    tables: &Tables,
+) -> Result<(), NoMemory>
+    requires few { length schemas.now < 2 ^ 16 }
+    ensures { OnOk result ((journal : Journal) → ((table key : ℕ) → rows_in tables.now table key ≡ row_at A table key journal) →
+        text.new.items ≡ text.old.items ++ flat_map (λ table. text_of_lines (table_lines A table)) (tables_left schemas.now journal)) }
 {
-    let table = table_of(alloc, &script.table)?;
-    let mut site = Site::create(alloc, table, disk)?;
-    for step in script.steps.as_slice() {
-        do_step(alloc, &mut site, *step, disk)?;
+    for (place, schema) in schemas.iter().enumerate() {
+        let rows = tables.dump(place as u16 + 1)?;
+        let lines = print_table(alloc, SiteId::A, schema.name.as_slice(), rows.as_slice())?;
+        text.extend_from_slice(lines.as_slice())?;
     }
-    Ok(site)
-}
-
-/// Runs a script and answers its report.
-pub fn run<D: LogDisk>(alloc: Global, script: &Script, disk: &mut D) -> Result<Bytes, SiteFault>
-    requires runnable { IsRunnable script.now }
-    requires empty { D.seen disk.old 1 ≡ [] }
-    ensures ok { IfOk result (λ report. (report ≡ report_of script.now) × IsLogOfScript script.now (D.seen disk.new 1)) }
-    ensures err { IfErr result (LeavesPart (log_of script.now) (D.seen disk.new 1)) }
-    ensures others { (other : ℕ) → other ≢ 1 → D.seen disk.new other ≡ D.seen disk.old other }
-    ensures cause { HasDiskCause (D.fault_count disk.old) (D.fault_count disk.new) result }
-{
-    let site = run_steps(alloc, script, disk)?;
-    Ok(print_report(alloc, 1, site.written(), site.last())?)
+    Ok(())
 }

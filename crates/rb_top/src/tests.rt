@@ -2,7 +2,6 @@ use super::*;
 use rb_base::{Bytes, Numbers};
 use rb_disk::{FailingDisk, MemoryDisk};
 use rb_io::{MemorySink, MemorySource, SteadySink, SteadySource};
-use rb_script::ScriptKind;
 use std::alloc::Global;
 use std::test::Fail;
 use std::thread::Threads;
@@ -10,15 +9,24 @@ use std::thread::Threads;
 mod faults;
 mod refused;
 mod runs;
+mod sips;
 mod spelled;
 
 /// A script of two inserts in one epoch.
 const WORKED: &[u8] = b"table t num\ntx A ins t 5 7\ntx A ins t 6 8\nepoch A\nlog A\n";
 
-const BAD: Status = Status::BadScript {
-    line: 0,
-    kind: ScriptKind::Syntax,
-};
+/// Its report.
+const WORKED_REPORT: &[u8] = b"ndb replication report
+2 ok transid=1 epoch=4294967296 sent=1
+3 ok transid=2 epoch=4294967296 sent=2
+4 closed 4294967296 sent=3
+5 delivered kept=3 known=0 old=0 wrote 1 written=4294967296 missing=0:done
+log A files=1 epochs=1 written=4294967296
+table A t rows=2
+row 5 7
+row 6 8
+end
+";
 
 /// What a call over sound objects answered, and what it left.
 #[derive(Drop)]

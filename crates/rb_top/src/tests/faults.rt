@@ -1,7 +1,10 @@
+use super::sips::Sips;
 use super::spelled::{TWO_ROWS, file_of};
-use super::{FailedLeft, WORKED, run_failing};
-use crate::Status;
-use rb_base::SiteId;
+use super::{FailedLeft, WORKED, WORKED_REPORT, run_failing, words_of};
+use crate::{Status, top};
+use rb_base::{Bytes, SiteId};
+use rb_disk::MemoryDisk;
+use rb_io::SteadySource;
 use std::process::Abort;
 use std::test::Fail;
 
@@ -41,6 +44,30 @@ fn the_first_write_fails(rt: HostRuntime) -> Result<(), Fail> {
         Status::WriteFault,
         &file_of(rt.alloc(), &TWO_ROWS)?,
     );
+    Ok(())
+}
+
+// A sink that takes 7 bytes at a call fails at its fourth call: 21 bytes are printed, and the log is whole.
+#[test]
+fn a_later_write_fails(rt: HostRuntime) -> Result<(), Fail> {
+    let alloc = rt.alloc();
+    let words = words_of(alloc, &[b"run".as_slice()])?;
+    let mut source = SteadySource::new(Bytes::from_vec(Vec::from_slice(alloc, WORKED)?));
+    let mut sink = Sips::new(alloc, 3);
+    let mut disk_a = MemoryDisk::new(alloc);
+    let mut disk_b = MemoryDisk::new(alloc);
+    let status = top(
+        &rt,
+        alloc,
+        &words,
+        &mut source,
+        &mut sink,
+        &mut disk_a,
+        &mut disk_b,
+    );
+    assert_eq!(rt; status, Status::WriteFault);
+    assert_eq!(rt; sink.bytes(), &WORKED_REPORT[..21]);
+    assert_eq!(rt; disk_a.file(1), file_of(alloc, &TWO_ROWS)?.as_slice());
     Ok(())
 }
 

@@ -18,7 +18,7 @@ loop-index-preserved c =
           c.index_mut.result.now c.add.new.self within before.count c.index_mut.ensures.value before.todo
           (λ holds. holds_one c.index_mut.result.now c.add.new.self c.args.epoch.0 c.args.bucket c.args.change.now kept holds
           (subst (λ (change : Change). (e b : ℕ) → node.changes_kept c.add.new.self e b ≡ node.with_change c.args.epoch.0 c.args.bucket change (node.changes_kept c.index_mut.result.now) e b) c.in_ok-copy.ensures c.in_ok-place.ensures.kept)
-          c.in_ok-place.ensures.closes) all (before.done kept all);
+          c.in_ok-place.ensures.closes c.in_ok-place.ensures.since) all (before.done kept all);
       buckets = λ b all. buckets_stay (λ buffer. node.IsBucketOf buffer b) c.loop-index.buffers.items c.loop-index.index c.index_mut.result.now c.add.new.self within c.index_mut.ensures.value
           (c.in_ok-place.ensures.buckets b) (before.buckets b all);
       place = λ kept all _. c.in_ok-place.ensures.place

@@ -15,7 +15,7 @@ loop-index-preserved c =
       todo = todo_more c.args.buffers.now.items c.loop-index.buffers.items c.loop-index.index c.close.new.self before.todo;
       done = λ kept all. one_more (λ buffer. HoldsAll buffer kept) (λ buffer. HoldsAll buffer (with_close c.args.epoch.0 c.args.prev.0 kept)) c.args.buffers.now.items c.loop-index.buffers.items c.loop-index.index
           c.index_mut.result.now c.close.new.self within before.count c.index_mut.ensures.value before.todo
-          (λ holds. holds_close c.index_mut.result.now c.close.new.self c.args.epoch.0 c.args.prev.0 kept holds c.in_ok-close.ensures.kept c.in_ok-close.ensures.ok) all (before.done kept all);
+          (λ holds. holds_close c.index_mut.result.now c.close.new.self c.args.epoch.0 c.args.prev.0 kept holds c.in_ok-close.ensures.kept c.in_ok-close.ensures.ok c.in_ok-close.ensures.since) all (before.done kept all);
       buckets = λ b all. buckets_stay (λ buffer. node.IsBucketOf buffer b) c.loop-index.buffers.items c.loop-index.index c.index_mut.result.now c.close.new.self within c.index_mut.ensures.value
           (c.in_ok-close.ensures.buckets b) (before.buckets b all);
     }

@@ -17,7 +17,7 @@ loop-index-preserved c =
       count = omega (arith, c.in_ok-push-2.ensures.len, before.count, c.push-in-loop-index.new.self.ok.0, c.loop-index.buffers.ok.0);
       owners = c.in_ok-push.ensures.items ∙ owners_more c.args.first c.loop-index.owners.items c.loop-index.index before.owners;
       empty = subst (λ (buffers : List BucketBuffer). All (λ (buffer : BucketBuffer). HoldsAll buffer (nothing_kept c.args.opened.0)) buffers) (sym c.in_ok-push-2.ensures.items)
-          (All-push (λ (buffer : BucketBuffer). HoldsAll buffer (nothing_kept c.args.opened.0)) c.loop-index.buffers.items c.in_ok-new.field-0 before.empty (c.in_ok-new.ensures.empty, c.in_ok-new.ensures.closes));
+          (All-push (λ (buffer : BucketBuffer). HoldsAll buffer (nothing_kept c.args.opened.0)) c.loop-index.buffers.items c.in_ok-new.field-0 before.empty (c.in_ok-new.ensures.empty, c.in_ok-new.ensures.closes, c.in_ok-new.ensures.since));
       buckets = subst (λ (buffers : List BucketBuffer). All (λ (buffer : BucketBuffer). (bucket : ℕ) → c.args.first ≤ bucket → bucket < c.args.first + c.args.nodes → node.IsBucketOf buffer bucket) buffers) (sym c.in_ok-push-2.ensures.items)
           (All-push (λ (buffer : BucketBuffer). (bucket : ℕ) → c.args.first ≤ bucket → bucket < c.args.first + c.args.nodes → node.IsBucketOf buffer bucket) c.loop-index.buffers.items c.in_ok-new.field-0 before.buckets c.in_ok-new.ensures.buckets);
     }

@@ -1,26 +1,21 @@
-use Rattle.std.proofs.Common.{◌∙◌, sym, ap, arith, length, List, [], ◌∷◌, ◌++◌}
-use Rattle.std.specs.Prelude.{None}
-use Rattle.rb_base.specs.declared.change.Change.{Change}
-use Rattle.rb_base.specs.declared.body.EpochBody.{EpochBody}
-use Rattle.std.proofs.lemmas.Bool.{eqb-true, eqb-false}
-use Rattle.std.proofs.lemmas.List.{nil_from_length}
-use Rattle.rb_site.proofs.Steps.{closes_empty, closes_some}
+use Rattle.std.proofs.Common.{refl, ap, ◌∙◌}
+use Rattle.rb_commit.specs.Hand.{Hand}
+use Rattle.rb_site.proofs.CloseLaws.{can_close, site_closed, close_is}
 use Rattle.rb_site.proofs.site.Site.close.Goals as goal
 
-pub returns-then-is_empty-clause-ok : goal.returns-then-is_empty-clause-ok
-returns-then-is_empty-clause-ok c = λ name file run is. record {
-  table = is.table;
-  length = is.length;
-  stands = closes_empty name _ run is.stands (nil_from_length _ (omega (arith, c.args.self.now.pending.ok, eqb-true _ _ (sym c.is_empty.ensures ∙ c.if-is_empty.true))));
-}
+pub close-requires-2 : goal.close-requires-2
+close-requires-2 c =
+    let (file, shape, run, held, room) = c.requires.fits in
+    record { room = can_close shape c.args.self file run held }
 
-pub returns-clause-ok : goal.returns-clause-ok
-returns-clause-ok c = λ name file run is. record {
-  table = is.table;
-  length = is.length;
-  stands = closes_some name _ run _ _ _ is.stands
-      (λ none. eqb-false _ _ (sym c.is_empty.ensures ∙ c.if-is_empty.false) (omega (arith, c.args.self.now.pending.ok, ap length none)))
-      (c.in_ok-tables.ensures ∙ is.table)
-      (ap (λ v. v.items) c.replace.ensures.after ∙ c.new.ensures.items)
-      (c.in_ok-push.ensures.items ∙ ap (λ (body : EpochBody). c.args.self.now.waiting.items ++ body ∷ []) (c.body_of.ensures ∙ ap (λ (changes : List Change). record { server = 1; epoch = c.args.self.now.open; reflected = None; tables = c.in_ok-tables.tables; changes = changes }) (c.from_vec-changes.ensures ∙ ap (λ v. v.items) c.replace.ensures.value)));
-}
+pub returns-clause-closed : goal.returns-clause-closed
+returns-clause-closed c = λ shape file run held.
+    let after = site_closed shape c.args.gci c.args.self _ file run c.prev-prev.result c.open.result c.in_ok-nodes.messages.items held
+    c.prev-prev.ensures
+    (c.open.ensures ∙ ap (λ (h : Hand). h.opened) c.in-Some.ensures.closed)
+    refl refl c.in-Some.ensures.closed refl
+    (λ b s holds. c.in_ok-nodes.ensures.holds b s holds)
+    (λ b s holds. c.in_ok-nodes.ensures.sent b s holds)
+    (λ ss ds box. c.in_ok-send_all.ensures ss ds box)
+    refl refl refl in
+    close_is shape c.args.gci _ file run c.in-Some.epoch c.len-sent.result after (c.in-Some.ensures.some ∙ ap (λ (h : Hand). h.opened) held.clock) c.len-sent.ensures

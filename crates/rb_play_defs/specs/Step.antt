@@ -1,0 +1,244 @@
+-- What an event does at a site, and what it answers.
+use Rattle.std.specs.Prelude.{ℕ, ◌+◌, ◌==◌, not, Bool, true, false, List, [], ◌∷◌, ◌++◌, length, filter, map, fold, count_by, Option, None, unwrap_or}
+use Rattle.std.specs.List.{list_any, last_or, scan, slice_get}
+use Rattle.std.specs.Option.{option_map_or}
+use Rattle.rb_base.specs.declared.row.Row.{Row}
+use Rattle.rb_base.specs.declared.change.Change.{Change}
+use Rattle.rb_base.specs.declared.body.EpochBody.{EpochBody}
+use Rattle.rb_base.specs.declared.message.Message.{Message}
+use Rattle.rb_base.specs.declared.message.Sent.{Sent}
+use Rattle.rb_base.specs.declared.script.ClientOp.{ClientOp}
+use Rattle.rb_base.specs.declared.outcome.Outcome.{Outcome}
+use Rattle.rb_base.specs.declared.outcome.Outcome.TheVariants as outcomes
+use Rattle.rb_base.specs.Site.{server_of}
+use Rattle.rb_journal_defs.specs.Journal.{Client, Closed, Journal, row_at}
+use Rattle.rb_journal_defs.specs.Body.{Shape, changes_in, body_of, numbers_below, has_something_to_log, logged_bodies}
+use Rattle.rb_journal_defs.specs.Transaction.{Refusal, RowTwice, KeyThere, NoKey, refusal_of, changes_made}
+use Rattle.rb_journal_defs.specs.Clock.{first_epoch, epoch_after}
+use Rattle.rb_message_defs.specs.declared.answers.Received.{Received}
+use Rattle.rb_message_defs.specs.declared.answers.Received.TheVariants as answers
+use Rattle.rb_message_defs.specs.declared.answers.Missing.{Missing}
+use Rattle.rb_message_defs.specs.Message.{home_node, parts_sent, dones_sent, sent_by}
+use Rattle.rb_message_defs.specs.Received.{Fed, answer_to, missing_of}
+use Rattle.rb_message_defs.specs.Taken.{taken_epochs}
+use Rattle.rb_play_defs.specs.declared.event.SiteEvent.{SiteEvent}
+use Rattle.rb_play_defs.specs.declared.event.SiteEvent.TheVariants.{Tx, Close, Deliver, DeliverAll, Inject}
+
+-- a site within a run: its journal, its open epoch, how many transactions it has numbered; all messages that its nodes sent, and
+-- the places of those that were delivered; the messages that the event buffer received, the newest first, the last epoch that was
+-- taken from it, and how many bodies are written
+pub record Progress : Type 0 where
+  pub journal : Journal
+  pub opened : ℕ
+  pub drawn : ℕ
+  pub sent : List Sent
+  pub delivered : List ℕ
+  pub received : List Message
+  pub last : ℕ
+  pub written : ℕ
+
+-- a site at the start
+abbrev pub beginning : Progress
+beginning = record { journal = []; opened = first_epoch; drawn = 0; sent = []; delivered = []; received = []; last = 0; written = 0 }
+
+-- where a run has come, and what the last event answered
+pub record Stepped : Type 0 where
+  pub run : Progress
+  pub outcome : Outcome
+
+-- what an event does that changes nothing
+abbrev pub unchanged : Progress → Outcome → Stepped
+unchanged run outcome = record { run = run; outcome = outcome }
+
+-- the row of each key
+abbrev pub rows_of : Shape → Progress → ℕ → ℕ → Option Row
+rows_of shape run table key = row_at shape.site table key run.journal
+
+-- the answer to a refused transaction
+abbrev pub refused : Refusal → Outcome
+refused (RowTwice number) = outcomes.RowTwice number
+refused (KeyThere number) = outcomes.KeyThere number
+refused (NoKey number) = outcomes.NoKey number
+
+-- the changes of a client's transaction that is accepted
+abbrev pub tx_changes : Shape → List ClientOp → Progress → List Change
+tx_changes shape operations run = changes_made (rows_of shape run) (server_of shape.site) (run.drawn + 1) operations
+
+-- the messages that its commit sends
+abbrev pub tx_messages : Shape → List ClientOp → Progress → List Message
+tx_messages shape operations run =
+    parts_sent shape.buckets run.opened (changes_in shape.site run.opened run.journal) (tx_changes shape operations run)
+
+-- the site behind it: the transaction is in the journal, and its changes are sent by the owners of their buckets
+abbrev pub committed : Shape → List ClientOp → Progress → Progress
+committed shape operations run = record run {
+  journal = Client run.opened (run.drawn + 1) (tx_changes shape operations run) ∷ run.journal;
+  drawn = run.drawn + 1;
+  sent = run.sent ++ map (sent_by home_node) (tx_messages shape operations run);
+}
+
+-- the answer to an accepted transaction
+abbrev pub commit_outcome : Progress → Outcome
+commit_outcome run =
+    outcomes.Committed run.drawn (record { 0 = run.opened }) (length run.sent)
+
+-- a client's transaction: it is refused, and changes nothing, or accepted
+unfoldable pub tx_step : Shape → List ClientOp → Progress → Stepped
+tx_step shape operations run =
+    option_map_or (λ refusal. unchanged run (refused refusal)) (refusal_of (rows_of shape run) operations)
+    (record { run = committed shape operations run; outcome = commit_outcome (committed shape operations run) })
+
+-- the open epoch closes, each bucket's owner tells its end, and the next epoch opens
+abbrev pub closed : Shape → (gci : Bool) → Progress → Progress
+closed shape gci run = record run {
+  journal = Closed run.opened ∷ run.journal;
+  opened = epoch_after gci run.opened;
+  sent = run.sent ++ map (sent_by home_node) (dones_sent shape run.opened run.journal);
+}
+
+-- the same, with its answer
+unfoldable pub close_step : Shape → (gci : Bool) → Progress → Stepped
+close_step shape gci run = record {
+  run = closed shape gci run;
+  outcome = outcomes.Closed (record { 0 = run.opened }) (length (closed shape gci run).sent);
+}
+
+-- what the event buffer was fed
+abbrev pub fed_by : Shape → Progress → Fed
+fed_by shape run = record { buckets = shape.buckets; last = run.last; received = run.received }
+
+-- a message at this place reaches the event buffer
+abbrev pub delivered_message : (place : ℕ) → Message → Progress → Progress
+delivered_message place message run = record run { delivered = place ∷ run.delivered; received = message ∷ run.received }
+
+-- what the event buffer answers to a message
+abbrev pub answer_outcome : Received → Outcome
+answer_outcome answers.Kept = outcomes.Kept
+answer_outcome answers.Known = outcomes.Known
+answer_outcome answers.Old = outcomes.Old
+
+-- the delivery of a place, where there is a message
+unfoldable pub deliver_step : Shape → (place : ℕ) → Progress → Stepped
+deliver_step shape place run =
+    option_map_or (λ sent. record {
+      run = delivered_message place sent.message run;
+      outcome = answer_outcome (answer_to (fed_by shape run) sent.message);
+    }) (slice_get run.sent place) (unchanged run (outcomes.NoMessage place (length run.sent)))
+
+-- the places that were never delivered
+abbrev pub undelivered : Progress → List ℕ
+undelivered run = filter (λ place. not (list_any (λ delivered. delivered == place) run.delivered)) (numbers_below (length run.sent))
+
+-- the site behind the delivery of a place
+abbrev pub after_delivery : Shape → Progress → (place : ℕ) → Progress
+after_delivery shape run place = (deliver_step shape place run).run
+
+-- the site behind the delivery of these places, in order
+abbrev pub all_delivered : Shape → List ℕ → Progress → Progress
+all_delivered shape places run = fold (after_delivery shape) run places
+
+-- what the event buffer answers to each of them
+abbrev pub delivery_outcomes : Shape → List ℕ → Progress → List Outcome
+delivery_outcomes shape places run = scan (after_delivery shape) (λ before place. (deliver_step shape place before).outcome) run places
+
+-- how many of these answers were kept, known and old
+pub record Answers : Type 0 where
+  pub kept : ℕ
+  pub known : ℕ
+  pub old : ℕ
+
+abbrev pub is_kept : Outcome → Bool
+is_kept outcomes.Kept = true
+is_kept outcome = false
+
+abbrev pub is_known : Outcome → Bool
+is_known outcomes.Known = true
+is_known outcome = false
+
+abbrev pub is_old : Outcome → Bool
+is_old outcomes.Old = true
+is_old outcome = false
+
+-- the counts of these answers
+abbrev pub answers_in : List Outcome → Answers
+answers_in outcomes = record { kept = count_by is_kept outcomes; known = count_by is_known outcomes; old = count_by is_old outcomes }
+
+-- the delivery of every message that was never delivered
+pub record Delivery : Type 0 where
+  pub run : Progress
+  pub answers : Answers
+
+unfoldable pub delivery_of_all : Shape → Progress → Delivery
+delivery_of_all shape run = record {
+  run = all_delivered shape (undelivered run) run;
+  answers = answers_in (delivery_outcomes shape (undelivered run) run);
+}
+
+-- the same, with its answer
+unfoldable pub deliver_all_step : Shape → Progress → Stepped
+deliver_all_step shape run =
+    let delivery = delivery_of_all shape run in
+    record { run = delivery.run; outcome = outcomes.Delivered delivery.answers.kept delivery.answers.known delivery.answers.old }
+
+-- the epochs that the injector can take
+abbrev pub takeable : Shape → Progress → List ℕ
+takeable shape run = taken_epochs (fed_by shape run) run.journal
+
+-- those among these epochs that have something to log
+abbrev pub worth_logging : Shape → Journal → List ℕ → List ℕ
+worth_logging shape journal epochs = filter (λ epoch. has_something_to_log (body_of shape epoch journal)) epochs
+
+-- the epoch of the last body, or 0
+abbrev pub last_epoch : List EpochBody → ℕ
+last_epoch bodies = unwrap_or (last_or None (map (λ body. body.epoch.0) bodies)) 0
+
+-- the bodies that a site has written
+abbrev pub written_bodies : Shape → Progress → List EpochBody
+written_bodies shape run = logged_bodies shape run.written run.journal
+
+-- the site behind one epoch that is taken, and written where it has something to log
+abbrev pub with_taken : Shape → Progress → (epoch : ℕ) → Progress
+with_taken shape run epoch = record run { last = epoch; written = run.written + length (worth_logging shape run.journal (epoch ∷ [])) }
+
+-- the site behind the injector's turn: every whole epoch is taken, and those with something to log are written
+abbrev pub injected : Shape → Progress → Progress
+injected shape run = record run {
+  last = unwrap_or (last_or None (takeable shape run)) run.last;
+  written = run.written + length (worth_logging shape run.journal (takeable shape run));
+}
+
+-- what the injector's turn amounts to: how many epochs it wrote, the last one that is written, and what is missing then
+pub record Injection : Type 0 where
+  pub run : Progress
+  pub count : ℕ
+  pub written : ℕ
+  pub missing : Missing
+
+-- what is missing, where the next epoch is not whole
+abbrev pub missing_behind : Shape → Progress → Missing
+missing_behind shape run = unwrap_or (missing_of (fed_by shape run)) (record { bucket = 0; place = None })
+
+unfoldable pub injection_of : Shape → Progress → Injection
+injection_of shape run =
+    let after = injected shape run in record {
+      run = after;
+      count = length (worth_logging shape run.journal (takeable shape run));
+      written = last_epoch (written_bodies shape after);
+      missing = missing_behind shape after;
+    }
+
+-- the same, with its answer
+unfoldable pub inject_step : Shape → Progress → Stepped
+inject_step shape run =
+    let injection = injection_of shape run in record {
+      run = injection.run;
+      outcome = outcomes.Wrote injection.count (record { 0 = injection.written }) injection.missing.bucket injection.missing.place;
+    }
+
+-- an event at the site
+unfoldable pub site_step : Shape → Progress → SiteEvent → Stepped
+site_step shape run (Tx operations) = tx_step shape operations run
+site_step shape run (Close gci) = close_step shape gci run
+site_step shape run (Deliver place) = deliver_step shape place run
+site_step shape run DeliverAll = deliver_all_step shape run
+site_step shape run Inject = inject_step shape run

@@ -1,0 +1,196 @@
+-- Worked examples of whole scripts, with the reports that were worked out by hand.
+use Rattle.std.specs.Prelude.{◌≡◌, ℕ, List, [], ◌∷◌, codes, Result, Ok, Err}
+use Rattle.rb_text_defs.specs.declared.script.BadLine.{BadLine}
+use Rattle.rb_text_defs.specs.declared.script.ScriptKind.{ScriptKind}
+use Rattle.rb_text_defs.specs.declared.script.Script.{Script}
+use Rattle.rb_text_defs.specs.Report.{text_of_lines}
+use Rattle.rb_text_defs.specs.Script.{script_of}
+use Rattle.rb_play_defs.specs.Play.{report_of}
+
+-- the report of a script, where it is legal
+abbrev pub report_if_legal : Result Script BadLine → List ℕ
+report_if_legal (Ok script) = report_of script
+report_if_legal (Err bad) = []
+
+-- the report of the script in these lines
+abbrev pub report_of_lines : List (List ℕ) → List ℕ
+report_of_lines lines = report_if_legal (script_of (text_of_lines lines))
+
+-- the first path
+abbrev pub the_first_path_script : List (List ℕ)
+the_first_path_script =
+    codes "table t num"
+    ∷ codes "tx A ins t 5 7"
+    ∷ codes "tx A ins t 6 8"
+    ∷ codes "epoch A"
+    ∷ codes "log A" ∷ []
+
+-- its report
+abbrev pub the_first_path_report : List (List ℕ)
+the_first_path_report =
+    codes "ndb replication report"
+    ∷ codes "2 ok transid=1 epoch=4294967296 sent=1"
+    ∷ codes "3 ok transid=2 epoch=4294967296 sent=2"
+    ∷ codes "4 closed 4294967296 sent=3"
+    ∷ codes "5 delivered kept=3 known=0 old=0 wrote 1 written=4294967296 missing=0:done"
+    ∷ codes "log A files=1 epochs=1 written=4294967296"
+    ∷ codes "table A t rows=2"
+    ∷ codes "row 5 7"
+    ∷ codes "row 6 8"
+    ∷ codes "end" ∷ []
+
+-- empty epochs
+abbrev pub empty_epochs_script : List (List ℕ)
+empty_epochs_script =
+    codes "table t num"
+    ∷ codes "tx A ins t 1 1"
+    ∷ codes "epoch A"
+    ∷ codes "epoch A"
+    ∷ codes "gcp A"
+    ∷ codes "epoch A"
+    ∷ codes "tx A ins t 2 2"
+    ∷ codes "epoch A"
+    ∷ codes "log A" ∷ []
+
+-- its report
+abbrev pub empty_epochs_report : List (List ℕ)
+empty_epochs_report =
+    codes "ndb replication report"
+    ∷ codes "2 ok transid=1 epoch=4294967296 sent=1"
+    ∷ codes "3 closed 4294967296 sent=2"
+    ∷ codes "4 closed 4294967297 sent=3"
+    ∷ codes "5 closed 4294967298 sent=4"
+    ∷ codes "6 closed 8589934592 sent=5"
+    ∷ codes "7 ok transid=2 epoch=8589934593 sent=6"
+    ∷ codes "8 closed 8589934593 sent=7"
+    ∷ codes "9 delivered kept=7 known=0 old=0 wrote 2 written=8589934593 missing=0:done"
+    ∷ codes "log A files=1 epochs=2 written=8589934593"
+    ∷ codes "table A t rows=2"
+    ∷ codes "row 1 1"
+    ∷ codes "row 2 2"
+    ∷ codes "end" ∷ []
+
+-- refused transactions
+abbrev pub refused_transactions_script : List (List ℕ)
+refused_transactions_script =
+    codes "table t num"
+    ∷ codes "tx A ins t 5 1 ; ins t 5 2"
+    ∷ codes "tx A ins t 5 1"
+    ∷ codes "tx A ins t 5 3"
+    ∷ codes "tx A del t 9"
+    ∷ codes "tx A upd t 5 4 ; ins t 5 1" ∷ []
+
+-- its report
+abbrev pub refused_transactions_report : List (List ℕ)
+refused_transactions_report =
+    codes "ndb replication report"
+    ∷ codes "2 row twice 1"
+    ∷ codes "3 ok transid=1 epoch=4294967296 sent=1"
+    ∷ codes "4 key there 0"
+    ∷ codes "5 no key 0"
+    ∷ codes "6 row twice 1"
+    ∷ codes "log A files=1 epochs=0 written=0"
+    ∷ codes "table A t rows=1"
+    ∷ codes "row 5 1"
+    ∷ codes "end" ∷ []
+
+-- order and repeats
+abbrev pub order_and_repeats_script : List (List ℕ)
+order_and_repeats_script =
+    codes "table t num"
+    ∷ codes "tx A ins t 5 7"
+    ∷ codes "tx A ins t 6 8"
+    ∷ codes "epoch A"
+    ∷ codes "deliver A 2"
+    ∷ codes "deliver A 1"
+    ∷ codes "deliver A 0"
+    ∷ codes "deliver A 0"
+    ∷ codes "deliver A 3"
+    ∷ codes "inject A"
+    ∷ codes "deliver A 0" ∷ []
+
+-- its report
+abbrev pub order_and_repeats_report : List (List ℕ)
+order_and_repeats_report =
+    codes "ndb replication report"
+    ∷ codes "2 ok transid=1 epoch=4294967296 sent=1"
+    ∷ codes "3 ok transid=2 epoch=4294967296 sent=2"
+    ∷ codes "4 closed 4294967296 sent=3"
+    ∷ codes "5 kept"
+    ∷ codes "6 kept"
+    ∷ codes "7 kept"
+    ∷ codes "8 known"
+    ∷ codes "9 no message 3 3"
+    ∷ codes "10 wrote 1 written=4294967296 missing=0:done"
+    ∷ codes "11 old"
+    ∷ codes "log A files=1 epochs=1 written=4294967296"
+    ∷ codes "table A t rows=2"
+    ∷ codes "row 5 7"
+    ∷ codes "row 6 8"
+    ∷ codes "end" ∷ []
+
+-- lost first
+abbrev pub lost_first_script : List (List ℕ)
+lost_first_script =
+    codes "table t num"
+    ∷ codes "tx A ins t 1 1"
+    ∷ codes "epoch A"
+    ∷ codes "tx A ins t 2 2"
+    ∷ codes "epoch A"
+    ∷ codes "deliver A 2"
+    ∷ codes "deliver A 3"
+    ∷ codes "inject A"
+    ∷ codes "deliver A 1"
+    ∷ codes "inject A"
+    ∷ codes "deliver A 0"
+    ∷ codes "inject A" ∷ []
+
+-- its report
+abbrev pub lost_first_report : List (List ℕ)
+lost_first_report =
+    codes "ndb replication report"
+    ∷ codes "2 ok transid=1 epoch=4294967296 sent=1"
+    ∷ codes "3 closed 4294967296 sent=2"
+    ∷ codes "4 ok transid=2 epoch=4294967297 sent=3"
+    ∷ codes "5 closed 4294967297 sent=4"
+    ∷ codes "6 kept"
+    ∷ codes "7 kept"
+    ∷ codes "8 wrote 0 written=0 missing=0:done"
+    ∷ codes "9 kept"
+    ∷ codes "10 wrote 0 written=0 missing=0:0"
+    ∷ codes "11 kept"
+    ∷ codes "12 wrote 2 written=4294967297 missing=0:done"
+    ∷ codes "log A files=1 epochs=2 written=4294967297"
+    ∷ codes "table A t rows=2"
+    ∷ codes "row 1 1"
+    ∷ codes "row 2 2"
+    ∷ codes "end" ∷ []
+
+-- two nodes in a group
+abbrev pub two_nodes_script : List (List ℕ)
+two_nodes_script =
+    codes "site A groups 1 replicas 2 limit 1048576"
+    ∷ codes "table t num"
+    ∷ codes "tx A ins t 1 10 ; ins t 2 20"
+    ∷ codes "tx A ins t 3 30"
+    ∷ codes "epoch A"
+    ∷ codes "log A" ∷ []
+
+-- its report
+abbrev pub two_nodes_report : List (List ℕ)
+two_nodes_report =
+    codes "ndb replication report"
+    ∷ codes "3 ok transid=1 epoch=4294967296 sent=2"
+    ∷ codes "4 ok transid=2 epoch=4294967296 sent=3"
+    ∷ codes "5 closed 4294967296 sent=5"
+    ∷ codes "6 delivered kept=5 known=0 old=0 wrote 1 written=4294967296 missing=0:done"
+    ∷ codes "log A files=1 epochs=1 written=4294967296"
+    ∷ codes "table A t rows=3"
+    ∷ codes "row 1 10"
+    ∷ codes "row 2 20"
+    ∷ codes "row 3 30"
+    ∷ codes "end" ∷ []
+
+-- how these lines are refused: the first bad line, and what is wrong with it
+abbrev pub are_refused : List (List ℕ) → (line : ℕ) → ScriptKind → Type 0
+are_refused lines line kind = script_of (text_of_lines lines) ≡ Err (record { line = line; kind = kind })

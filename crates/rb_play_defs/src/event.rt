@@ -1,0 +1,16 @@
+use rb_base::ClientOps;
+
+/// What happens at one site.
+#[derive(Debug, Drop)]
+pub enum SiteEvent {
+    /// A client's transaction.
+    Tx(ClientOps),
+    /// The open epoch closes. True where the next GCI begins.
+    Close(bool),
+    /// The message at this place of the Sent list reaches the event buffer.
+    Deliver(u64),
+    /// Each message that was never delivered does, in the order of the Sent list.
+    DeliverAll,
+    /// The injector takes and writes all whole epochs.
+    Inject,
+}

@@ -1,0 +1,43 @@
+ghost use Rattle.std.specs.Prelude.{◌≡◌, ◌∷◌, [], codes};
+ghost use Rattle.rb_text_defs.specs.declared.script.ScriptKind.TheVariants as ScriptKind;
+ghost use Rattle.rb_text_defs.specs.Report.{text_of_lines};
+ghost use Rattle.rb_play_defs.specs.Worked.{report_of_lines, the_first_path_script, the_first_path_report, empty_epochs_script, empty_epochs_report, refused_transactions_script, refused_transactions_report, order_and_repeats_script, order_and_repeats_report, lost_first_script, lost_first_report, two_nodes_script, two_nodes_report, are_refused};
+
+/// Two inserts in one epoch, which is logged.
+pub fn the_first_path()
+    ensures { report_of_lines the_first_path_script ≡ text_of_lines the_first_path_report }
+{}
+
+/// Two epochs with empty ones between them.
+pub fn empty_epochs()
+    ensures { report_of_lines empty_epochs_script ≡ text_of_lines empty_epochs_report }
+{}
+
+/// Transactions that name a row twice, insert a key that is there, or change one that is not.
+pub fn refused_transactions()
+    ensures { report_of_lines refused_transactions_script ≡ text_of_lines refused_transactions_report }
+{}
+
+/// Messages out of order, repeatedly, and of a place that is not there.
+pub fn order_and_repeats()
+    ensures { report_of_lines order_and_repeats_script ≡ text_of_lines order_and_repeats_report }
+{}
+
+/// An epoch that follows one of which nothing is known, or not all.
+pub fn lost_first()
+    ensures { report_of_lines lost_first_script ≡ text_of_lines lost_first_report }
+{}
+
+/// A group of two nodes, among which the keys are spread.
+pub fn two_nodes()
+    ensures { report_of_lines two_nodes_script ≡ text_of_lines two_nodes_report }
+{}
+
+/// Scripts that are refused, each for its first bad line.
+pub fn refused_scripts()
+    ensures no_form { are_refused (codes "frob" ∷ []) 1 ScriptKind.Syntax }
+    ensures no_table { are_refused (codes "tx A ins t 1 1" ∷ []) 1 ScriptKind.Setup }
+    ensures great_number { are_refused (codes "deliver A 18446744073709551616" ∷ []) 1 ScriptKind.Syntax }
+    ensures late_table { are_refused (codes "table t num" ∷ codes "epoch A" ∷ codes "table u num" ∷ []) 3 ScriptKind.Setup }
+    ensures first_bad_line { are_refused (codes "table t num" ∷ codes "table t num" ∷ codes "frob" ∷ []) 2 ScriptKind.Setup }
+{}

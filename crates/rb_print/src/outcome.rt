@@ -1,0 +1,428 @@
+ghost use Rattle.std.specs.Prelude.{◌≡◌, ◌++◌, ◌∷◌, [], codes, false, OnOk};
+ghost use Rattle.std.specs.List.{concat, flat_map};
+ghost use Rattle.rb_text_defs.specs.Report.{delivered_text, labelled, listed_text, missing_text, outcome_text, wrote_text};
+ghost use Rattle.rb_base.specs.declared.outcome.Outcome.TheVariants as outcomes;
+ghost use Rattle.rb_print.specs.Groups.{is_of_nodes, is_of_site};
+
+use crate::put::{Labelled, letter, put, put_number, put_numbers};
+use rb_base::{Epoch, Listed, NoMemory, Outcome, SiteId};
+use std::alloc::Global;
+
+/// Appends what an event did.
+#[tactic(auto, unfolding(rb_text_defs::specs::Report::outcome_text))]
+pub(crate) fn put_outcome(
+    alloc: Global,
+    text: &mut Vec<u8>,
+    outcome: &Outcome,
+) -> Result<(), NoMemory>
+    ensures { OnOk result (text.new.items ≡ text.old.items ++ outcome_text outcome.now) }
+{
+    match outcome {
+        Outcome::Committed {
+            transid,
+            epoch,
+            sent,
+        } => put_committed(alloc, text, *transid, *epoch, *sent),
+        Outcome::RowTwice(number) => put_number(alloc, text, b"row twice ", u64::from(*number)),
+        Outcome::KeyThere(number) => put_number(alloc, text, b"key there ", u64::from(*number)),
+        Outcome::NoKey(number) => put_number(alloc, text, b"no key ", u64::from(*number)),
+        Outcome::Closed { epoch, sent } => put_closed(alloc, text, *epoch, *sent),
+        Outcome::Kept => put(text, b"kept"),
+        Outcome::Known => put(text, b"known"),
+        Outcome::Old => put(text, b"old"),
+        Outcome::NoMessage { place, sent } => put_no_message(alloc, text, *place, *sent),
+        Outcome::Delivered { kept, known, old } => put_delivered(alloc, text, *kept, *known, *old),
+        Outcome::Wrote {
+            count,
+            written,
+            bucket,
+            place,
+        } => put_wrote(alloc, text, *count, *written, *bucket, *place),
+        Outcome::Logged {
+            kept,
+            known,
+            old,
+            count,
+            written,
+            bucket,
+            place,
+        } => {
+            put_delivered(alloc, text, *kept, *known, *old)?;
+            put_wrote_too(alloc, text, *count, *written, *bucket, *place)?;
+            Ok(())
+        }
+        _ => put_nodes(alloc, text, outcome),
+    }
+}
+
+/// Appends what an event of data nodes did, or one of the log's way to the peer.
+#[tactic(auto, unfolding(rb_text_defs::specs::Report::outcome_text))]
+fn put_nodes(alloc: Global, text: &mut Vec<u8>, outcome: &Outcome) -> Result<(), NoMemory>
+    requires { is_of_site outcome.now ≡ false }
+    ensures { OnOk result (text.new.items ≡ text.old.items ++ outcome_text outcome.now) }
+{
+    match outcome {
+        Outcome::Failed { takeover, sent } => put_failed(alloc, text, *takeover, *sent),
+        Outcome::Lost { group, epoch } => put_lost(alloc, text, b"lost ", *group, *epoch),
+        Outcome::NodeDown(node) => put_number(alloc, text, b"node down ", u64::from(*node)),
+        Outcome::Restarted { since } => put_number(alloc, text, b"restarted since=", since.0),
+        Outcome::NodeUp(node) => put_number(alloc, text, b"node up ", u64::from(*node)),
+        Outcome::Resent { sent } => put_number(alloc, text, b"resent sent=", *sent),
+        Outcome::Recovered { written, sent } => put_recovered(alloc, text, *written, *sent),
+        Outcome::DrainLost { site, group, epoch } => {
+            put_drain_lost(alloc, text, *site, *group, *epoch)
+        }
+        Outcome::SiteLost { group, epoch } => put_lost(alloc, text, b"site lost ", *group, *epoch),
+        _ => put_stream(alloc, text, outcome),
+    }
+}
+
+/// Appends what an event of the log's way to the peer did.
+#[tactic(auto, unfolding(rb_text_defs::specs::Report::outcome_text))]
+fn put_stream(alloc: Global, text: &mut Vec<u8>, outcome: &Outcome) -> Result<(), NoMemory>
+    requires site { is_of_site outcome.now ≡ false }
+    requires nodes { is_of_nodes outcome.now ≡ false }
+    ensures { OnOk result (text.new.items ≡ text.old.items ++ outcome_text outcome.now) }
+{
+    match outcome {
+        Outcome::Taken { file, position } => put_place(
+            alloc,
+            text,
+            b"taken file=",
+            *file,
+            *position,
+        ),
+        Outcome::NotNext { file, position } => {
+            put_place(alloc, text, b"not next file=", *file, *position)?;
+            Ok(())
+        }
+        Outcome::ApplierAt { file, position } => {
+            put_place(alloc, text, b"restarted file=", *file, *position)?;
+            Ok(())
+        }
+        Outcome::Applied {
+            epoch,
+            accepted,
+            rejected,
+            refreshed,
+            sent,
+        } => put_applied(alloc, text, *epoch, *accepted, *rejected, *refreshed, *sent),
+        Outcome::Nothing => put(text, b"nothing"),
+        Outcome::Flowed {
+            count,
+            file,
+            position,
+        } => put_flowed(alloc, text, *count, *file, *position),
+        Outcome::Dumped { files, events } => put_dumped(alloc, text, *files, events.as_slice()),
+        Outcome::Drained => put(text, b"drained"),
+        // No outcome is left here: the callers take all others.
+        _ => Ok(()),
+    }
+}
+
+/// A transaction is committed.
+#[tactic(auto, unfolding(rb_text_defs::specs::Report::outcome_text))]
+fn put_committed(
+    alloc: Global,
+    text: &mut Vec<u8>,
+    transid: u64,
+    epoch: Epoch,
+    sent: u64,
+) -> Result<(), NoMemory>
+    ensures { OnOk result (text.new.items ≡ text.old.items ++ outcome_text (outcomes.Committed transid epoch sent)) }
+{
+    put_numbers(
+        alloc,
+        text,
+        &[
+            Labelled(b"ok transid=", transid),
+            Labelled(b" epoch=", epoch.0),
+            Labelled(b" sent=", sent),
+        ],
+    )
+}
+
+/// An epoch is closed.
+#[tactic(auto, unfolding(rb_text_defs::specs::Report::outcome_text))]
+fn put_closed(alloc: Global, text: &mut Vec<u8>, epoch: Epoch, sent: u64) -> Result<(), NoMemory>
+    ensures { OnOk result (text.new.items ≡ text.old.items ++ outcome_text (outcomes.Closed epoch sent)) }
+{
+    put_numbers(
+        alloc,
+        text,
+        &[Labelled(b"closed ", epoch.0), Labelled(b" sent=", sent)],
+    )
+}
+
+/// There is no message at a place.
+#[tactic(auto, unfolding(rb_text_defs::specs::Report::outcome_text))]
+fn put_no_message(alloc: Global, text: &mut Vec<u8>, place: u64, sent: u64) -> Result<(), NoMemory>
+    ensures { OnOk result (text.new.items ≡ text.old.items ++ outcome_text (outcomes.NoMessage place sent)) }
+{
+    put_numbers(
+        alloc,
+        text,
+        &[Labelled(b"no message ", place), Labelled(b" ", sent)],
+    )
+}
+
+/// Messages are delivered.
+#[tactic(auto, unfolding(rb_text_defs::specs::Report::outcome_text))]
+fn put_delivered(
+    alloc: Global,
+    text: &mut Vec<u8>,
+    kept: u64,
+    known: u64,
+    old: u64,
+) -> Result<(), NoMemory>
+    ensures { OnOk result (text.new.items ≡ text.old.items ++ delivered_text kept known old) }
+{
+    put_numbers(
+        alloc,
+        text,
+        &[
+            Labelled(b"delivered kept=", kept),
+            Labelled(b" known=", known),
+            Labelled(b" old=", old),
+        ],
+    )
+}
+
+/// Epochs are written, and this is the first thing that is missing.
+#[tactic(auto, using(crate::proofs::TextLaws::behind_two))]
+fn put_wrote(
+    alloc: Global,
+    text: &mut Vec<u8>,
+    count: u64,
+    written: Epoch,
+    bucket: u32,
+    place: Option<u32>,
+) -> Result<(), NoMemory>
+    ensures { OnOk result (text.new.items ≡ text.old.items ++ wrote_text count written bucket place) }
+{
+    put_number(alloc, text, b"wrote ", count)?;
+    put_number(alloc, text, b" written=", written.0)?;
+    put_missing(alloc, text, bucket, place)?;
+    Ok(())
+}
+
+/// The same behind a space.
+#[tactic(auto, using(crate::proofs::TextLaws::behind_one))]
+fn put_wrote_too(
+    alloc: Global,
+    text: &mut Vec<u8>,
+    count: u64,
+    written: Epoch,
+    bucket: u32,
+    place: Option<u32>,
+) -> Result<(), NoMemory>
+    ensures { OnOk result (text.new.items
+        ≡ text.old.items ++ concat (codes " " ∷ wrote_text count written bucket place ∷ [])) }
+{
+    put(text, b" ")?;
+    put_wrote(alloc, text, count, written, bucket, place)?;
+    Ok(())
+}
+
+/// The first thing that an event buffer misses: a bucket, and a place of it or its Done.
+fn put_missing(
+    alloc: Global,
+    text: &mut Vec<u8>,
+    bucket: u32,
+    place: Option<u32>,
+) -> Result<(), NoMemory>
+    ensures { OnOk result (text.new.items ≡ text.old.items ++ missing_text bucket place) }
+{
+    put_number(alloc, text, b" missing=", u64::from(bucket))?;
+    match place {
+        Some(place) => {
+            put_number(alloc, text, b":", u64::from(place))?;
+            Ok(())
+        }
+        None => {
+            put(text, b":done")?;
+            Ok(())
+        }
+    }
+}
+
+/// A node failed.
+#[tactic(auto, unfolding(rb_text_defs::specs::Report::outcome_text))]
+fn put_failed(alloc: Global, text: &mut Vec<u8>, takeover: u32, sent: u64) -> Result<(), NoMemory>
+    ensures { OnOk result (text.new.items ≡ text.old.items ++ outcome_text (outcomes.Failed takeover sent)) }
+{
+    put_numbers(
+        alloc,
+        text,
+        &[
+            Labelled(b"failed takeover=", u64::from(takeover)),
+            Labelled(b" sent=", sent),
+        ],
+    )
+}
+
+/// A node group is lost: a label, the group, and the epoch.
+fn put_lost(
+    alloc: Global,
+    text: &mut Vec<u8>,
+    label: &[u8],
+    group: u32,
+    epoch: Epoch,
+) -> Result<(), NoMemory>
+    ensures { OnOk result (text.new.items
+        ≡ text.old.items ++ concat (labelled label.now group ∷ labelled (codes " ") epoch.0 ∷ [])) }
+{
+    put_numbers(
+        alloc,
+        text,
+        &[Labelled(label, u64::from(group)), Labelled(b" ", epoch.0)],
+    )
+}
+
+/// The injector recovered.
+#[tactic(auto, unfolding(rb_text_defs::specs::Report::outcome_text))]
+fn put_recovered(
+    alloc: Global,
+    text: &mut Vec<u8>,
+    written: Epoch,
+    sent: u64,
+) -> Result<(), NoMemory>
+    ensures { OnOk result (text.new.items ≡ text.old.items ++ outcome_text (outcomes.Recovered written sent)) }
+{
+    put_numbers(
+        alloc,
+        text,
+        &[
+            Labelled(b"recovered written=", written.0),
+            Labelled(b" sent=", sent),
+        ],
+    )
+}
+
+/// A node group of a site is lost.
+#[tactic(auto, unfolding(rb_text_defs::specs::Report::outcome_text))]
+fn put_drain_lost(
+    alloc: Global,
+    text: &mut Vec<u8>,
+    site: SiteId,
+    group: u32,
+    epoch: Epoch,
+) -> Result<(), NoMemory>
+    ensures { OnOk result (text.new.items ≡ text.old.items ++ outcome_text (outcomes.DrainLost site group epoch)) }
+{
+    put(text, b"lost ")?;
+    put(text, letter(site))?;
+    put_lost(alloc, text, b" ", group, epoch)?;
+    Ok(())
+}
+
+/// A place in a log: a label, the file, and the position.
+fn put_place(
+    alloc: Global,
+    text: &mut Vec<u8>,
+    label: &[u8],
+    file: u32,
+    position: u64,
+) -> Result<(), NoMemory>
+    ensures { OnOk result (text.new.items
+        ≡ text.old.items ++ concat (labelled label.now file ∷ labelled (codes " pos=") position ∷ [])) }
+{
+    put_numbers(
+        alloc,
+        text,
+        &[
+            Labelled(label, u64::from(file)),
+            Labelled(b" pos=", position),
+        ],
+    )
+}
+
+/// An epoch is applied.
+#[tactic(auto, unfolding(rb_text_defs::specs::Report::outcome_text))]
+fn put_applied(
+    alloc: Global,
+    text: &mut Vec<u8>,
+    epoch: Epoch,
+    accepted: u32,
+    rejected: u32,
+    refreshed: u32,
+    sent: u64,
+) -> Result<(), NoMemory>
+    ensures { OnOk result (text.new.items ≡ text.old.items ++ outcome_text (outcomes.Applied epoch accepted rejected refreshed sent)) }
+{
+    put_numbers(
+        alloc,
+        text,
+        &[
+            Labelled(b"applied ", epoch.0),
+            Labelled(b" accepted=", u64::from(accepted)),
+            Labelled(b" rejected=", u64::from(rejected)),
+            Labelled(b" refreshed=", u64::from(refreshed)),
+            Labelled(b" sent=", sent),
+        ],
+    )
+}
+
+/// Epochs are applied up to a place.
+#[tactic(auto, unfolding(rb_text_defs::specs::Report::outcome_text))]
+fn put_flowed(
+    alloc: Global,
+    text: &mut Vec<u8>,
+    count: u64,
+    file: u32,
+    position: u64,
+) -> Result<(), NoMemory>
+    ensures { OnOk result (text.new.items ≡ text.old.items ++ outcome_text (outcomes.Flowed count file position)) }
+{
+    put_numbers(
+        alloc,
+        text,
+        &[
+            Labelled(b"flowed ", count),
+            Labelled(b" file=", u64::from(file)),
+            Labelled(b" pos=", position),
+        ],
+    )
+}
+
+/// The events of a site's files.
+fn put_dumped(
+    alloc: Global,
+    text: &mut Vec<u8>,
+    files: u32,
+    events: &[Listed],
+) -> Result<(), NoMemory>
+    ensures { OnOk result (text.new.items
+        ≡ text.old.items ++ (labelled (codes "dumped files=") files ++ flat_map listed_text events.now)) }
+{
+    put_number(alloc, text, b"dumped files=", u64::from(files))?;
+    put_listed(alloc, text, events)?;
+    Ok(())
+}
+
+/// Events of files, each on a line of its own.
+fn put_listed(alloc: Global, text: &mut Vec<u8>, events: &[Listed]) -> Result<(), NoMemory>
+    ensures { OnOk result (text.new.items ≡ text.old.items ++ flat_map listed_text events.now) }
+{
+    for event in events {
+        put_event(alloc, text, *event)?;
+    }
+    Ok(())
+}
+
+/// An event of a file, on a line of its own.
+fn put_event(alloc: Global, text: &mut Vec<u8>, event: Listed) -> Result<(), NoMemory>
+    ensures { OnOk result (text.new.items ≡ text.old.items ++ listed_text event) }
+{
+    put_numbers(
+        alloc,
+        text,
+        &[
+            Labelled(b"\nevent file=", u64::from(event.file)),
+            Labelled(b" pos=", event.position),
+            Labelled(b" type=", u64::from(event.kind)),
+            Labelled(b" size=", u64::from(event.size)),
+            Labelled(b" end=", u64::from(event.end)),
+        ],
+    )
+}

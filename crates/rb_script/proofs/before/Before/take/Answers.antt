@@ -1,0 +1,39 @@
+use Rattle.std.proofs.Common.{◌∷◌, [], ◌++◌, ◌+◌, map, sym, subst, refl}
+use Rattle.rb_text_defs.specs.Form.{SiteLine, TableLine, TxLine, EventLine, Says}
+use Rattle.rb_text_defs.specs.Script.{closes_in_form}
+use Rattle.rb_text_defs.proofs.Lines.{not_misplaced}
+use Rattle.rb_script.specs.Seen.{operation_seen}
+use Rattle.rb_script.specs.Tells.{Tells, forms_of}
+use Rattle.rb_script.proofs.TellsLaws.{told_site, told_table, told_tx, told_event}
+use Rattle.rb_script.proofs.before.Before.take.Goals as goal
+
+pub returns-in-Site-clause-told : goal.returns-in-Site-clause-told
+returns-in-Site-clause-told c =
+    let form = SiteLine c.in-Site.field-0 c.in-Site.shape.groups c.in-Site.shape.replicas c.in-Site.shape.limit in
+    rw c.in-Site.is (λ readings told fine.
+    subst (λ after. Tells (readings ++ Says form ∷ []) after) (sym c.take_site.ensures)
+    (told_site readings c.args.self.now c.in-Site.field-0 c.in-Site.shape told c.requires.room.lines (not_misplaced (forms_of readings) (c.args.self.now.lines + 1) form fine)))
+
+pub returns-in_ok-take_table-in-Table-clause-told : goal.returns-in_ok-take_table-in-Table-clause-told
+returns-in_ok-take_table-in-Table-clause-told c =
+    let form = TableLine c.in-Table.name.now c.in-Table.columns in
+    let room = rw c.in-Table.is at c.requires.room in
+    rw c.in-Table.is (λ readings told fine.
+    subst (λ after. Tells (readings ++ Says form ∷ []) after) (sym c.in_ok-take_table-in-Table.ensures)
+    (told_table readings c.args.self.now c.in-Table.name.now c.in-Table.columns told room (not_misplaced (forms_of readings) (c.args.self.now.lines + 1) form fine)))
+
+pub returns-in_ok-take_tx-in-Tx-clause-told : goal.returns-in_ok-take_tx-in-Tx-clause-told
+returns-in_ok-take_tx-in-Tx-clause-told c =
+    let operations = map operation_seen c.in-Tx.operations.items in
+    let room = rw c.in-Tx.is at c.requires.room in
+    let taken = rw c.deref.ensures.value at c.in_ok-take_tx-in-Tx.ensures in
+    rw c.in-Tx.is (λ readings told fine.
+    subst (λ after. Tells (readings ++ Says (TxLine c.in-Tx.site operations) ∷ []) after) (sym taken)
+    (told_tx readings c.args.self.now c.in-Tx.site operations told room))
+
+pub returns-in_ok-take_event-in-Event-clause-told : goal.returns-in_ok-take_event-in-Event-clause-told
+returns-in_ok-take_event-in-Event-clause-told c =
+    let room = rw c.in-Event.is at c.requires.room in
+    rw c.in-Event.is (λ readings told fine.
+    subst (λ after. Tells (readings ++ Says (EventLine c.in-Event.event) ∷ []) after) (sym c.in_ok-take_event-in-Event.ensures)
+    (told_event readings c.args.self.now c.in-Event.event (closes_in_form (EventLine c.in-Event.event)) told room refl))

@@ -1,0 +1,39 @@
+-- What the parser's own words, operations and forms stand for in the definitions.
+use Rattle.std.specs.Prelude.{List, [], ◌∷◌, map, Option, None}
+use Rattle.rb_base.specs.declared.site.SiteId.{SiteId}
+use Rattle.rb_text_defs.specs.Words as words
+use Rattle.rb_text_defs.specs.Form as forms
+use Rattle.rb_script.specs.declared.word.Word.{Word}
+use Rattle.rb_script.specs.declared.word.Word.TheVariants.{Plain, Quoted}
+use Rattle.rb_script.specs.declared.operation.Operation.{Operation}
+use Rattle.rb_script.specs.declared.form.Form.{Form}
+use Rattle.rb_script.specs.declared.form.Form.TheVariants.{Site, Table, Tx, Event}
+use Rattle.rb_script.specs.declared.reading.Reading.{Reading}
+use Rattle.rb_script.specs.declared.reading.Reading.TheVariants.{Wrong, Skipped, Says}
+
+-- a word
+abbrev pub word_of : Word → words.Word
+word_of (Plain bytes) = words.Plain bytes.now
+word_of (Quoted text) = words.Quoted text.now
+
+-- an operation
+abbrev pub operation_seen : Operation → forms.Operation
+operation_seen operation = record { op = operation.op; table = operation.table.now; key = operation.key; values = operation.values }
+
+-- a form
+abbrev pub form_seen : Form → forms.Form
+form_seen (Site site shape) = forms.SiteLine site shape.groups shape.replicas shape.limit
+form_seen (Table name columns) = forms.TableLine name.now columns
+form_seen (Tx site operations) = forms.TxLine site (map operation_seen operations.items)
+form_seen (Event event) = forms.EventLine event
+
+-- how a line reads
+abbrev pub reading_seen : Reading → forms.Reading
+reading_seen Wrong = forms.Wrong
+reading_seen Skipped = forms.Skipped
+reading_seen (Says form) = forms.Says (form_seen form)
+
+-- the site of words that are nothing else
+unfoldable pub only_site : List words.Word → Option SiteId
+only_site (site ∷ []) = forms.site_of site
+only_site words = None

@@ -1,0 +1,259 @@
+ghost use Rattle.std.specs.Prelude.{◌≡◌, ◌+◌, ◌<◌, ◌≤◌, ◌∷◌, [], ◌++◌, List, length, map, IfNone, Some, None, OnOk, true, false, option_map};
+ghost use Rattle.rb_base.specs.declared.script.Event.TheVariants as events;
+ghost use Rattle.rb_text_defs.specs.Form.{EventLine, Form as LineForm, Reading, Says, Skipped};
+ghost use Rattle.rb_text_defs.specs.Script.{bad_line, client_op, closes_in_form, is_misplaced, limit_passed, most_changes, most_lines, most_tables, refusal_of_line, script_in};
+ghost use Rattle.rb_script.specs.Seen.{form_seen, operation_seen};
+ghost use Rattle.rb_script.specs.Tells.{HasRoom, IsSmall, Tells, TellsForms, forms_of, most_closes};
+
+use crate::form::Form;
+use crate::limit::{DEFAULT_LIMIT, MOST_LINES, event_limit, site_limit, table_limit, tx_limit};
+use crate::operation::Operation;
+use crate::table::{all_suit, client_ops, table_named};
+use rb_base::{Bytes, Columns, Event, Mode, NoMemory, Schema, Schemas, Setup, SiteId, SiteSetup};
+use rb_text_defs::{Limit, LinedEvent, LinedEvents, Script, ScriptKind};
+use std::alloc::Global;
+
+/// The shape of a site that no line gives.
+const DEFAULT_SITE: SiteSetup = SiteSetup {
+    groups: 1,
+    replicas: 1,
+    limit: DEFAULT_LIMIT,
+};
+
+/// What the lines so far tell.
+#[derive(Drop)]
+pub(crate) struct Before {
+    /// How many they are.
+    pub(crate) lines: u32,
+    /// The shape of site A, where a line gave one.
+    pub(crate) site: Option<SiteSetup>,
+    pub(crate) tables: Schemas,
+    /// Whether one of them was an event.
+    pub(crate) has_event: bool,
+    /// How many changes the transactions have.
+    pub(crate) changes: u32,
+    /// How many epochs are closed.
+    pub(crate) closes: u32,
+    pub(crate) events: LinedEvents,
+}
+
+impl Before {
+    /// What no lines tell.
+    #[tactic(auto, using(crate::proofs::TellsLaws::told_none))]
+    pub(crate) fn new(alloc: Global) -> Self
+        ensures { Tells [] result }
+    {
+        Before {
+            lines: 0,
+            site: None,
+            tables: Schemas::new(alloc),
+            has_event: false,
+            changes: 0,
+            closes: 0,
+            events: LinedEvents::new(alloc),
+        }
+    }
+
+    /// What is wrong with a line of this form, that it does not fit those before it or passes a limit.
+    pub(crate) fn refusal(&self, form: &Form<'_>) -> Option<ScriptKind>
+        requires { IsSmall self.now }
+        ensures kind { (forms : List LineForm) → TellsForms forms self.now
+            → option_map (λ kind. bad_line (self.now.lines + 1) kind) result
+            ≡ refusal_of_line forms (self.now.lines + 1) (Says (form_seen form.now)) }
+        ensures room { IfNone result (HasRoom self.now (form_seen form.now)) }
+    {
+        if self.is_misplaced(form) {
+            return Some(ScriptKind::Setup);
+        }
+        match self.limit_passed(form) {
+            Some(limit) => Some(ScriptKind::Limit(limit)),
+            None => None,
+        }
+    }
+
+    /// Whether a line of this form does not fit those before it.
+    fn is_misplaced(&self, form: &Form<'_>) -> bool
+        ensures { (forms : List LineForm) → TellsForms forms self.now → result ≡ is_misplaced forms (form_seen form.now) }
+    {
+        match form {
+            Form::Site(..) => self.has_event || self.site.is_some(),
+            Form::Table(name, _) => {
+                self.has_event || table_named(self.tables.as_slice(), name).is_some()
+            }
+            Form::Tx(_, operations) => !all_suit(self.tables.as_slice(), operations),
+            Form::Event(_) => false,
+        }
+    }
+
+    /// The first limit that a line of this form passes.
+    fn limit_passed(&self, form: &Form<'_>) -> Option<Limit>
+        requires { IsSmall self.now }
+        ensures limit { (forms : List LineForm) → TellsForms forms self.now
+            → result ≡ limit_passed forms (self.now.lines + 1) (form_seen form.now) }
+        ensures room { IfNone result (HasRoom self.now (form_seen form.now)) }
+    {
+        if self.lines >= MOST_LINES {
+            return Some(Limit::Lines);
+        }
+        match form {
+            Form::Site(_, shape) => site_limit(*shape),
+            Form::Table(_, columns) => table_limit(self.tables.as_slice(), columns.as_slice()),
+            Form::Tx(_, operations) => tx_limit(self.changes, self.closes, operations.len()),
+            Form::Event(event) => event_limit(self.changes, self.closes, closes_in(event)),
+        }
+    }
+
+    /// Counts a line that says nothing.
+    pub(crate) fn skip(&mut self)
+        requires { self.old.lines < most_lines }
+        ensures told { (readings : List Reading) → Tells readings self.old → Tells (readings ++ Skipped ∷ []) self.new }
+        ensures lines { self.new.lines ≡ self.old.lines + 1 }
+    {
+        self.lines += 1;
+    }
+
+    /// Takes in a line of this form, which is not refused. Without memory it may be taken in in part.
+    pub(crate) fn take(&mut self, alloc: Global, form: Form<'_>) -> Result<(), NoMemory>
+        requires small { IsSmall self.old }
+        requires room { HasRoom self.old (form_seen form) }
+        ensures told { OnOk result ((readings : List Reading) → Tells readings self.old
+            → refusal_of_line (forms_of readings) (self.old.lines + 1) (Says (form_seen form.entry)) ≡ None
+            → Tells (readings ++ Says (form_seen form.entry) ∷ []) self.new) }
+        ensures lines { OnOk result (self.new.lines ≡ self.old.lines + 1) }
+    {
+        match form {
+            Form::Site(_, shape) => {
+                self.take_site(shape);
+                Ok(())
+            }
+            Form::Table(name, columns) => {
+                self.take_table(alloc, name, columns)?;
+                Ok(())
+            }
+            Form::Tx(site, operations) => {
+                self.take_tx(alloc, site, &operations)?;
+                Ok(())
+            }
+            Form::Event(event) => {
+                self.take_event(event)?;
+                Ok(())
+            }
+        }
+    }
+
+    /// The script that the lines tell together.
+    pub(crate) fn into_script(self) -> Script
+        ensures { (readings : List Reading) → Tells readings self → result ≡ script_in readings }
+    {
+        Script {
+            setup: Setup {
+                mode: Mode::EpochTrans,
+                a: self.site.unwrap_or(DEFAULT_SITE),
+                b: DEFAULT_SITE,
+                tables: self.tables,
+            },
+            events: self.events,
+        }
+    }
+
+    fn take_site(&mut self, shape: SiteSetup)
+        requires { self.old.lines < most_lines }
+        ensures { self.new ≡ record {
+          lines = self.old.lines + 1;
+          site = Some shape;
+          tables = self.old.tables;
+          has_event = self.old.has_event;
+          changes = self.old.changes;
+          closes = self.old.closes;
+          events = self.old.events;
+        } }
+    {
+        self.lines += 1;
+        self.site = Some(shape);
+    }
+
+    fn take_table(&mut self, alloc: Global, name: &[u8], columns: Columns) -> Result<(), NoMemory>
+        requires { self.old.lines < most_lines }
+        ensures { OnOk result (self.new ≡ record {
+          lines = self.old.lines + 1;
+          site = self.old.site;
+          tables = self.old.tables ++ record { name = name.now; columns = columns } ∷ [];
+          has_event = self.old.has_event;
+          changes = self.old.changes;
+          closes = self.old.closes;
+          events = self.old.events;
+        }) }
+    {
+        self.lines += 1;
+        let name = Bytes::from_vec(Vec::from_slice(alloc, name)?);
+        self.tables.push(Schema { name, columns })?;
+        Ok(())
+    }
+
+    fn take_tx(
+        &mut self,
+        alloc: Global,
+        site: SiteId,
+        operations: &[Operation<'_>],
+    ) -> Result<(), NoMemory>
+        requires lines { self.old.lines < most_lines }
+        requires tables { length self.old.tables ≤ most_tables }
+        requires changes { self.old.changes + length operations.now ≤ most_changes }
+        ensures { OnOk result (self.new ≡ record {
+          lines = self.old.lines + 1;
+          site = self.old.site;
+          tables = self.old.tables;
+          has_event = true;
+          changes = self.old.changes + length (map operation_seen operations.now);
+          closes = self.old.closes;
+          events = self.old.events ++ record {
+            line = self.old.lines + 1;
+            event = events.Tx site (map (client_op self.old.tables) (map operation_seen operations.now));
+          } ∷ [];
+        }) }
+    {
+        self.lines += 1;
+        self.has_event = true;
+        self.changes += operations.len() as u32;
+        let operations = client_ops(alloc, self.tables.as_slice(), operations)?;
+        self.events.push(LinedEvent {
+            line: self.lines,
+            event: Event::Tx(site, operations),
+        })?;
+        Ok(())
+    }
+
+    fn take_event(&mut self, event: Event) -> Result<(), NoMemory>
+        requires lines { self.old.lines < most_lines }
+        requires closes { self.old.closes ≤ most_closes }
+        ensures { OnOk result (self.new ≡ record {
+          lines = self.old.lines + 1;
+          site = self.old.site;
+          tables = self.old.tables;
+          has_event = true;
+          changes = self.old.changes;
+          closes = self.old.closes + closes_in_form (EventLine event);
+          events = self.old.events ++ record { line = self.old.lines + 1; event = event } ∷ [];
+        }) }
+    {
+        self.lines += 1;
+        self.has_event = true;
+        self.closes += closes_in(&event);
+        self.events.push(LinedEvent {
+            line: self.lines,
+            event,
+        })?;
+        Ok(())
+    }
+}
+
+/// How many epochs an event closes.
+fn closes_in(event: &Event) -> u32
+    ensures closes { result ≡ closes_in_form (EventLine event.now) }
+    ensures few { result ≤ 1 }
+{
+    match event {
+        Event::Close(..) => 1,
+        _ => 0,
+    }
+}

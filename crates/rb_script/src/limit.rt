@@ -1,0 +1,154 @@
+ghost use Rattle.std.specs.Prelude.{◌≡◌, ◌+◌, ◌*◌, ◌^◌, ◌≤◌, ◌==◌, [], ◌∷◌, nat_le, nat_lt, ◌&&◌, not, length, IfNone};
+ghost use Rattle.rb_text_defs.specs.Script.{default_limit, most_changes, most_columns, most_groups, most_replicas, most_row_bytes, most_tables, most_tx_changes, most_work, column_bytes, row_bytes};
+ghost use Rattle.rb_base.specs.declared.schema.Column.TheVariants as columns;
+ghost use Rattle.rb_text_defs.specs.declared.script.Limit.TheVariants as limits;
+ghost use Rattle.rb_script.specs.Tells.{first_passed, most_closes};
+
+use rb_base::{Column, Schema, SiteSetup};
+use rb_text_defs::Limit;
+
+/// How many bytes a script has at most.
+pub const MOST_SCRIPT_BYTES: u64 = 33554432;
+
+/// How many lines a script has at most.
+pub(crate) const MOST_LINES: u32 = 100000;
+
+const MOST_TABLES: usize = 32;
+
+const MOST_COLUMNS: usize = 15;
+
+const MOST_ROW_BYTES: u64 = 1000;
+
+const MOST_GROUPS: u32 = 8;
+
+const MOST_REPLICAS: u32 = 4;
+
+/// The length in bytes from which a site's files are rotated, where no line gives another.
+pub(crate) const DEFAULT_LIMIT: u64 = 1048576;
+
+const MOST_TX_CHANGES: u64 = 4096;
+
+const MOST_CHANGES: u64 = 400;
+
+const MOST_WORK: u64 = 4000000;
+
+/// How much work a close is, where a change is 1.
+const CLOSE_WORK: u64 = 32;
+
+/// The first limit that the shape of a site passes.
+pub(crate) fn site_limit(shape: SiteSetup) -> Option<Limit>
+    ensures { result ≡ first_passed ((not (nat_le 1 shape.groups && nat_le shape.groups most_groups), limits.Groups)
+        ∷ (not (nat_le 1 shape.replicas && nat_le shape.replicas most_replicas), limits.Replicas)
+        ∷ (not (shape.limit == default_limit), limits.LogLimit) ∷ []) }
+{
+    if !is_within(shape.groups, MOST_GROUPS) {
+        return Some(Limit::Groups);
+    }
+    if !is_within(shape.replicas, MOST_REPLICAS) {
+        return Some(Limit::Replicas);
+    }
+    if shape.limit != DEFAULT_LIMIT {
+        return Some(Limit::LogLimit);
+    }
+    None
+}
+
+fn is_within(number: u32, most: u32) -> bool
+    ensures { result ≡ (nat_le 1 number && nat_le number most) }
+{
+    1 <= number && number <= most
+}
+
+/// The first limit that a table of these columns passes, behind so many others.
+pub(crate) fn table_limit(tables: &[Schema], columns: &[Column]) -> Option<Limit>
+    ensures first { result ≡ first_passed ((nat_lt most_tables (length tables.now + 1), limits.Tables)
+        ∷ (nat_lt most_columns (length columns.now), limits.Columns)
+        ∷ (nat_lt most_row_bytes (row_bytes columns.now), limits.RowBytes) ∷ []) }
+    ensures few { IfNone result (length tables.now + 1 ≤ most_tables) }
+{
+    if tables.len() + 1 > MOST_TABLES {
+        return Some(Limit::Tables);
+    }
+    if columns.len() > MOST_COLUMNS {
+        return Some(Limit::Columns);
+    }
+    if row_bytes(columns) > MOST_ROW_BYTES {
+        return Some(Limit::RowBytes);
+    }
+    None
+}
+
+/// How many bytes a row of a key and these columns has at most.
+fn row_bytes(columns: &[Column]) -> u64
+    requires { length columns.now ≤ 15 }
+    ensures { result ≡ row_bytes columns.now }
+{
+    let mut bytes = 8;
+    for column in columns {
+        bytes += column_bytes(*column);
+    }
+    bytes
+}
+
+/// How many bytes a column takes in a row at most: a text has a length before it.
+fn column_bytes(column: Column) -> u64
+    ensures bytes { result ≡ column_bytes column }
+    ensures few { result ≤ 65537 }
+{
+    match column {
+        Column::Num => 8,
+        Column::Long => 4,
+        Column::Text(most) => text_bytes(most),
+    }
+}
+
+fn text_bytes(most: u16) -> u64
+    ensures bytes { result ≡ column_bytes (columns.Text most) }
+    ensures few { result ≤ 65537 }
+{
+    if most <= 255 {
+        u64::from(most) + 1
+    } else {
+        u64::from(most) + 2
+    }
+}
+
+/// The first limit that a transaction of so many changes passes, behind so many changes and closes.
+pub(crate) fn tx_limit(changes: u32, closes: u32, count: usize) -> Option<Limit>
+    ensures first { result ≡ first_passed ((nat_lt most_tx_changes count, limits.TxChanges)
+        ∷ (nat_lt most_changes (changes + count), limits.Changes)
+        ∷ (nat_lt most_work ((changes + 32 * closes) + count), limits.Work) ∷ []) }
+    ensures few { IfNone result (changes + count ≤ most_changes) }
+{
+    let count = count as u64;
+    if count > MOST_TX_CHANGES {
+        return Some(Limit::TxChanges);
+    }
+    if u64::from(changes) + count > MOST_CHANGES {
+        return Some(Limit::Changes);
+    }
+    if work(changes, closes) + count > MOST_WORK {
+        return Some(Limit::Work);
+    }
+    None
+}
+
+/// The first limit that an event passes which is so many closes, behind so many changes and closes.
+pub(crate) fn event_limit(changes: u32, closes: u32, more: u32) -> Option<Limit>
+    requires { more ≤ 1 }
+    ensures first { result ≡ first_passed ((nat_lt most_work ((changes + 32 * closes) + 32 * more), limits.Work) ∷ []) }
+    ensures few { IfNone result (closes + more ≤ most_closes) }
+{
+    if work(changes, closes) + CLOSE_WORK * u64::from(more) > MOST_WORK {
+        return Some(Limit::Work);
+    }
+    None
+}
+
+/// How much work so many changes and closes are.
+fn work(changes: u32, closes: u32) -> u64
+    ensures work { result ≡ changes + 32 * closes }
+    ensures few { result ≤ 2 ^ 40 }
+{
+    u64::from(changes) + CLOSE_WORK * u64::from(closes)
+}

@@ -1,0 +1,49 @@
+ghost use Rattle.std.specs.Prelude.{◌≡◌, IfOk, option_map};
+ghost use Rattle.rb_text_defs.specs.Words.{◌>>=◌ as ◌read_on◌, words_of};
+ghost use Rattle.rb_text_defs.specs.Form.{form_of, reading_of, says};
+ghost use Rattle.rb_script.specs.Seen.{form_seen, reading_seen};
+
+use crate::byte::{are_line_bytes, is_skipped};
+use crate::form::{Form, read_form};
+use crate::word::words;
+use rb_base::NoMemory;
+use std::alloc::Global;
+
+/// How a line reads.
+#[derive(Drop)]
+pub(crate) enum Reading<'a> {
+    /// It is of no form.
+    Wrong,
+    /// It says nothing.
+    Skipped,
+    /// It says this.
+    Says(Form<'a>),
+}
+
+/// How a line reads.
+#[tactic(auto, unfolding(rb_text_defs::specs::Form::reading_of))]
+pub(crate) fn read_line(alloc: Global, line: &[u8]) -> Result<Reading<'_>, NoMemory>
+    ensures { IfOk result (λ reading. reading_seen reading ≡ reading_of line.now) }
+{
+    if !are_line_bytes(line) {
+        return Ok(Reading::Wrong);
+    }
+    if is_skipped(line) {
+        return Ok(Reading::Skipped);
+    }
+    match form_in(alloc, line)? {
+        Some(form) => Ok(Reading::Says(form)),
+        None => Ok(Reading::Wrong),
+    }
+}
+
+/// What the words of a line say, where they are well formed and of a form.
+fn form_in(alloc: Global, line: &[u8]) -> Result<Option<Form<'_>>, NoMemory>
+    ensures { IfOk result (λ form. option_map form_seen form ≡ (words_of line.now read_on form_of)) }
+{
+    let Some(words) = words(alloc, line)? else {
+        return Ok(None);
+    };
+    let form = read_form(alloc, &words)?;
+    Ok(form)
+}

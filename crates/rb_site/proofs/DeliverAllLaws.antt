@@ -1,0 +1,182 @@
+-- The delivery of all messages, one after the other.
+use Rattle.std.proofs.Common.{◌≡◌, ℕ, zero, suc, ◌+◌, ◌<◌, ◌≤◌, Bool, cond, List, [], ◌∷◌, length, refl, sym, ap, subst, ◌∙◌, arith, length-append}
+use Rattle.std.specs.Prelude.{Some, None, count_by, not, ◌==◌}
+use Rattle.std.specs.List.{slice_get, list_any}
+use Rattle.std.proofs.lemmas.List.Sums.{sum_by-cons}
+use Rattle.rb_base.specs.declared.message.Sent.{Sent}
+use Rattle.rb_base.specs.declared.outcome.Outcome.{Outcome}
+use Rattle.rb_base.specs.declared.outcome.Outcome.TheVariants as outcomes
+use Rattle.rb_journal_defs.specs.Body.{Shape, numbers_below}
+use Rattle.rb_journal_defs.specs.Transaction.{first_of}
+use Rattle.rb_journal_defs.proofs.Counts.{filter_length}
+use Rattle.rb_message_defs.specs.declared.answers.Received.{Received}
+use Rattle.rb_message_defs.specs.declared.answers.Received.TheVariants as answers
+use Rattle.rb_play_defs.specs.Step.{Progress, Stepped, answer_outcome, deliver_step, undelivered, all_delivered, delivery_outcomes, delivery_of_all, deliver_all_step, is_kept, is_known, is_old}
+use Rattle.rb_site.specs.Outbox.{HoldsSent, count_in, waiting_places}
+use Rattle.rb_site.specs.Tally.{sum_of, with_answer}
+use Rattle.rb_site.specs.Site.{IsSite}
+use Rattle.rb_site.specs.declared.site.Site.{Site}
+use Rattle.rb_site.specs.declared.tally.Tally.{Tally}
+use Rattle.rb_site.proofs.OutboxLaws.{waiting_rest, waiting_within}
+use Rattle.rb_site.proofs.DeliverLaws.{deliver_there}
+
+-- what the answers to the places that wait add to those that were counted
+pub record AreCounted (shape : Shape) (run now : Progress) (tally : Tally) : Type 0 where
+  pub kept : tally.kept + count_by is_kept (delivery_outcomes shape (undelivered now) now) ≡ count_by is_kept (delivery_outcomes shape (undelivered run) run)
+  pub known : tally.known + count_by is_known (delivery_outcomes shape (undelivered now) now) ≡ count_by is_known (delivery_outcomes shape (undelivered run) run)
+  pub old : tally.outdated + count_by is_old (delivery_outcomes shape (undelivered now) now) ≡ count_by is_old (delivery_outcomes shape (undelivered run) run)
+
+-- some of the places that waited are delivered
+pub record IsOnTheWay (shape : Shape) (file : List ℕ) (run : Progress) (site : Site) (tally : Tally) : Type 0 where
+  pub now : Progress
+  pub held : IsSite shape site file now
+  pub goal : all_delivered shape (undelivered now) now ≡ all_delivered shape (undelivered run) run
+  pub counted : AreCounted shape run now tally
+  pub few : sum_of tally + length (undelivered now) ≤ length now.sent
+
+numbers_length : (n : ℕ) → length (numbers_below n) ≡ n
+numbers_length zero = refl
+numbers_length (suc n) = let s = length-append (numbers_below n) (n ∷ []) in let h = numbers_length n in omega arith
+
+-- at the start none is
+pub way_begins : (shape : Shape) (file : List ℕ) (run : Progress) (site : Site) → IsSite shape site file run → IsOnTheWay shape file run site (record { kept = 0; known = 0; outdated = 0 })
+way_begins shape file run site held = record {
+  now = run;
+  held = held;
+  goal = refl;
+  counted = record { kept = omega arith; known = omega arith; old = omega arith };
+  few = (let f = filter_length (λ place. not (list_any (λ delivered. delivered == place) run.delivered)) (numbers_below (length run.sent)) in let n = numbers_length (length run.sent) in omega arith);
+}
+
+-- the first of them
+first_is : (places : List ℕ) (place : ℕ) → first_of places ≡ Some place → (rest : List ℕ) × (places ≡ place ∷ rest)
+first_is [] place same = absurd (let g : None ≡ Some place = same in cc)
+first_is (p ∷ places) place same = (places, ap (λ (x : ℕ). x ∷ places) (let g : Some p ≡ Some place = same in cc))
+
+get_within : {X : Type 0} → (xs : List X) (k : ℕ) → k < length xs → (x : X) × (slice_get xs k ≡ Some x)
+get_within [] k l = absurd (omega arith)
+get_within (x ∷ xs) zero l = (x, refl)
+get_within (x ∷ xs) (suc k) l = get_within xs k (omega arith)
+
+-- what is on its way has a first place, where one waits
+pub next_place : (shape : Shape) (file : List ℕ) (run : Progress) (site : Site) (tally : Tally) (place : ℕ) (way : IsOnTheWay shape file run site tally) →
+    ((ss : List Sent) (ds : List ℕ) → HoldsSent site.outbox ss ds → Some place ≡ first_of (waiting_places (length ss) ds)) → (rest : List ℕ) × (undelivered way.now ≡ place ∷ rest)
+next_place shape file run site tally place way first = first_is (undelivered way.now) place (sym (first way.now.sent way.now.delivered way.held.outbox))
+
+counts_more : (test : Outcome → Bool) (before total n : ℕ) (outcome : Outcome) (outcomes : List Outcome) → before + count_by test (outcome ∷ outcomes) ≡ total → n ≡ before + cond (test outcome) 1 0 → n + count_by test outcomes ≡ total
+counts_more test before total n outcome outcomes whole is =
+    let s = sum_by-cons (λ x. cond (test x) 1 0) outcome outcomes in omega arith
+
+kept_more : (answer : Received) (tally : Tally) → (with_answer answer tally).kept ≡ tally.kept + cond (is_kept (answer_outcome answer)) 1 0
+kept_more answers.Kept tally = refl
+kept_more answers.Known tally = omega arith
+kept_more answers.Old tally = omega arith
+
+known_more : (answer : Received) (tally : Tally) → (with_answer answer tally).known ≡ tally.known + cond (is_known (answer_outcome answer)) 1 0
+known_more answers.Kept tally = omega arith
+known_more answers.Known tally = refl
+known_more answers.Old tally = omega arith
+
+old_more : (answer : Received) (tally : Tally) → (with_answer answer tally).outdated ≡ tally.outdated + cond (is_old (answer_outcome answer)) 1 0
+old_more answers.Kept tally = omega arith
+old_more answers.Known tally = omega arith
+old_more answers.Old tally = refl
+
+sum_more : (answer : Received) (tally : Tally) → sum_of (with_answer answer tally) ≡ sum_of tally + 1
+sum_more answers.Kept tally = omega arith
+sum_more answers.Known tally = omega arith
+sum_more answers.Old tally = omega arith
+
+-- the place is one of those that were sent, and its answer can be counted
+pub place_within : (shape : Shape) (file : List ℕ) (run : Progress) (site : Site) (tally : Tally) (place : ℕ) (way : IsOnTheWay shape file run site tally) →
+    ((ss : List Sent) (ds : List ℕ) → HoldsSent site.outbox ss ds → Some place ≡ first_of (waiting_places (length ss) ds)) → place < count_in site.outbox
+place_within shape file run site tally place way first =
+    let next = next_place shape file run site tally place way first in
+    let l : place < length way.now.sent = waiting_within (length way.now.sent) place way.now.delivered next.0 next.1 in
+    let s : count_in site.outbox ≡ length way.now.sent = ap length way.held.outbox.sent_is in
+    omega arith
+
+pub sum_below : (shape : Shape) (file : List ℕ) (run : Progress) (site : Site) (tally : Tally) (place : ℕ) (way : IsOnTheWay shape file run site tally) →
+    ((ss : List Sent) (ds : List ℕ) → HoldsSent site.outbox ss ds → Some place ≡ first_of (waiting_places (length ss) ds)) → sum_of tally + 1 ≤ count_in site.outbox
+sum_below shape file run site tally place way first =
+    let next = next_place shape file run site tally place way first in
+    let one : length (undelivered way.now) ≡ suc (length next.0) = ap length next.1 in
+    let few = way.few in
+    let s : count_in site.outbox ≡ length way.now.sent = ap length way.held.outbox.sent_is in
+    omega arith
+
+-- one place more is delivered
+pub way_more : (shape : Shape) (file : List ℕ) (run : Progress) (old new : Site) (tally : Tally) (place : ℕ) (answer : Received) (way : IsOnTheWay shape file run old tally) →
+    ((ss : List Sent) (ds : List ℕ) → HoldsSent old.outbox ss ds → Some place ≡ first_of (waiting_places (length ss) ds)) →
+    ((s : Shape) (f : List ℕ) (r : Progress) → IsSite s old f r → IsSite s new f (deliver_step s place r).run × (answer_outcome answer ≡ (deliver_step s place r).outcome)) →
+    IsOnTheWay shape file run new (with_answer answer tally)
+way_more shape file run old new tally place answer way first step =
+    let now = way.now in
+    let (rest, waits) = next_place shape file run old tally place way first in
+    let within : place < length now.sent = waiting_within (length now.sent) place now.delivered rest waits in
+    let (at, there) = get_within now.sent place within in
+    let stepped = deliver_there shape now place at there in
+    let (held, answered) = step shape file now way.held in
+    let after = (deliver_step shape place now).run in
+    let sent : after.sent ≡ now.sent = ap (λ (s : Stepped). s.run.sent) stepped in
+    let delivered : after.delivered ≡ place ∷ now.delivered = ap (λ (s : Stepped). s.run.delivered) stepped in
+    let later : undelivered after ≡ rest =
+    ap (λ (ss : List Sent). waiting_places (length ss) after.delivered) sent ∙ ap (waiting_places (length now.sent)) delivered ∙ waiting_rest (length now.sent) place now.delivered rest waits in
+    let outcomes : delivery_outcomes shape (undelivered now) now ≡ answer_outcome answer ∷ delivery_outcomes shape (undelivered after) after =
+    ap (λ (ps : List ℕ). delivery_outcomes shape ps now) waits
+    ∙ ap (λ (o : Outcome). o ∷ delivery_outcomes shape rest after) (sym answered)
+    ∙ ap (λ (ps : List ℕ). answer_outcome answer ∷ delivery_outcomes shape ps after) (sym later) in
+    record {
+      now = after;
+      held = held;
+      goal = ap (λ (ps : List ℕ). all_delivered shape ps after) later ∙ sym (ap (λ (ps : List ℕ). all_delivered shape ps now) waits) ∙ way.goal;
+      counted = record {
+        kept = counts_more is_kept tally.kept _ (with_answer answer tally).kept (answer_outcome answer) (delivery_outcomes shape (undelivered after) after) (sym (ap (λ (os : List Outcome). tally.kept + count_by is_kept os) outcomes) ∙ way.counted.kept) (kept_more answer tally);
+        known = counts_more is_known tally.known _ (with_answer answer tally).known (answer_outcome answer) (delivery_outcomes shape (undelivered after) after) (sym (ap (λ (os : List Outcome). tally.known + count_by is_known os) outcomes) ∙ way.counted.known) (known_more answer tally);
+        old = counts_more is_old tally.outdated _ (with_answer answer tally).outdated (answer_outcome answer) (delivery_outcomes shape (undelivered after) after) (sym (ap (λ (os : List Outcome). tally.outdated + count_by is_old os) outcomes) ∙ way.counted.old) (old_more answer tally);
+      };
+      few = (let few = way.few in let one : length (undelivered now) ≡ suc (length rest) = ap length waits in let n : length (undelivered after) ≡ length rest = ap length later in let s = sum_more answer tally in let m : length after.sent ≡ length now.sent = ap length sent in omega arith);
+    }
+
+-- fewer wait then
+pub way_smaller : (shape : Shape) (file : List ℕ) (run : Progress) (old new : Site) (tally : Tally) (place : ℕ) (answer : Received) (way : IsOnTheWay shape file run old tally) →
+    ((ss : List Sent) (ds : List ℕ) → HoldsSent old.outbox ss ds → Some place ≡ first_of (waiting_places (length ss) ds)) →
+    ((s : Shape) (f : List ℕ) (r : Progress) → IsSite s old f r → IsSite s new f (deliver_step s place r).run × (answer_outcome answer ≡ (deliver_step s place r).outcome)) →
+    length new.outbox.waiting.keys < length old.outbox.waiting.keys
+way_smaller shape file run old new tally place answer way first step =
+    let now = way.now in
+    let (rest, waits) = next_place shape file run old tally place way first in
+    let within : place < length now.sent = waiting_within (length now.sent) place now.delivered rest waits in
+    let (at, there) = get_within now.sent place within in
+    let stepped = deliver_there shape now place at there in
+    let (held, answered) = step shape file now way.held in
+    let later : undelivered (deliver_step shape place now).run ≡ rest =
+    ap (λ (s : Stepped). undelivered s.run) stepped ∙ waiting_rest (length now.sent) place now.delivered rest waits in
+    let before : length old.outbox.waiting.keys ≡ suc (length rest) = ap length (way.held.outbox.waiting ∙ waits) in
+    let after : length new.outbox.waiting.keys ≡ length rest = ap length (held.outbox.waiting ∙ later) in
+    omega arith
+
+-- none waits any more
+pub way_ends : (shape : Shape) (file : List ℕ) (run : Progress) (site : Site) (tally : Tally) (way : IsOnTheWay shape file run site tally) →
+    ((ss : List Sent) (ds : List ℕ) → HoldsSent site.outbox ss ds → None ≡ first_of (waiting_places (length ss) ds)) →
+    IsSite shape site file (deliver_all_step shape run).run × (outcomes.Delivered tally.kept tally.known tally.outdated ≡ (deliver_all_step shape run).outcome)
+unfolding deliver_all_step delivery_of_all
+way_ends shape file run site tally way first =
+    let none : undelivered way.now ≡ [] = no_first (undelivered way.now) (sym (first way.now.sent way.now.delivered way.held.outbox)) in
+    let here : way.now ≡ all_delivered shape (undelivered run) run = sym (ap (λ (ps : List ℕ). all_delivered shape ps way.now) none) ∙ way.goal in
+    let kept : tally.kept ≡ count_by is_kept (delivery_outcomes shape (undelivered run) run) = counted_all is_kept tally.kept _ none way.counted.kept in
+    let known : tally.known ≡ count_by is_known (delivery_outcomes shape (undelivered run) run) = counted_all is_known tally.known _ none way.counted.known in
+    let old : tally.outdated ≡ count_by is_old (delivery_outcomes shape (undelivered run) run) = counted_all is_old tally.outdated _ none way.counted.old in (
+      subst (IsSite shape site file) here way.held,
+      ap (λ (n : ℕ). outcomes.Delivered n tally.known tally.outdated) kept
+          ∙ ap (λ (n : ℕ). outcomes.Delivered (count_by is_kept (delivery_outcomes shape (undelivered run) run)) n tally.outdated) known
+          ∙ ap (outcomes.Delivered (count_by is_kept (delivery_outcomes shape (undelivered run) run)) (count_by is_known (delivery_outcomes shape (undelivered run) run))) old,
+    )
+  where
+    no_first : (places : List ℕ) → first_of places ≡ None → places ≡ []
+    no_first [] same = refl
+    no_first (p ∷ places) same = absurd (let g : Some p ≡ None = same in cc)
+
+    counted_all : (test : Outcome → Bool) (n total : ℕ) → undelivered way.now ≡ [] → n + count_by test (delivery_outcomes shape (undelivered way.now) way.now) ≡ total → n ≡ total
+    counted_all test n total none whole =
+        let z : count_by test (delivery_outcomes shape (undelivered way.now) way.now) ≡ 0 = ap (λ (ps : List ℕ). count_by test (delivery_outcomes shape ps way.now)) none in omega arith

@@ -1,0 +1,99 @@
+-- What deliveries leave of a site.
+use Rattle.std.proofs.Common.{◌≡◌, ℕ, zero, suc, ◌<◌, ◌≤◌, List, [], ◌∷◌, length, refl, sym, ap, subst, ◌∙◌, arith}
+use Rattle.std.specs.Prelude.{Option, Some, None, Result, Ok, Err, IfOk, OnOk}
+use Rattle.std.specs.List.{slice_get}
+use Rattle.std.specs.Option.{option_map, option_map_or}
+use Rattle.rb_base.specs.declared.message.Message.{Message}
+use Rattle.rb_base.specs.declared.message.Sent.{Sent}
+use Rattle.rb_base.specs.declared.outcome.Outcome.TheVariants as outcomes
+use Rattle.rb_journal_defs.specs.Body.{Shape}
+use Rattle.rb_message_defs.specs.declared.answers.Received.{Received}
+use Rattle.rb_message_defs.specs.Message.{bucket_in}
+use Rattle.rb_message_defs.specs.Received.{Fed, answer_to}
+use Rattle.rb_evbuf.specs.Buffer.{StandsFor, buckets_of}
+use Rattle.rb_play_defs.specs.Step.{Progress, Stepped, unchanged, fed_by, delivered_message, answer_outcome, deliver_step}
+use Rattle.rb_play_defs.specs.Sound.{IsOwn}
+use Rattle.rb_play_defs.proofs.Takes.{of_sent, sound_delivered}
+use Rattle.rb_site.specs.Outbox.{HoldsSent, count_in}
+use Rattle.rb_site.specs.Site.{IsSite}
+use Rattle.rb_site.specs.declared.site.Site.{Site}
+
+-- what stands at a place
+some_message : (sent : List Sent) (place : ℕ) (message : Message) → option_map (λ sent. sent.message) (slice_get sent place) ≡ Some message → (at : Sent) × (slice_get sent place ≡ Some at) × (at.message ≡ message)
+some_message sent place message is = go (slice_get sent place) refl
+  where
+    go : (x : Option Sent) → slice_get sent place ≡ x → (at : Sent) × (slice_get sent place ≡ Some at) × (at.message ≡ message)
+    go None q = absurd (let g : None ≡ Some message = sym (ap (option_map (λ sent. sent.message)) q) ∙ is in cc)
+    go (Some at) q = (at, q, (let g : Some at.message ≡ Some message = sym (ap (option_map (λ sent. sent.message)) q) ∙ is in cc))
+
+-- a message that was sent is of a bucket of the event buffer
+pub bucket_fits : (shape : Shape) (site : Site) (file : List ℕ) (run : Progress) (place : ℕ) (message : Message) → IsSite shape site file run →
+    ((ss : List Sent) (ds : List ℕ) → HoldsSent site.outbox ss ds → option_map (λ sent. sent.message) (slice_get ss place) ≡ Some message) → bucket_in message < buckets_of site.events
+bucket_fits shape site file run place message held is =
+    let (at, there, same) = some_message run.sent place message (is run.sent run.delivered held.outbox) in
+    let own = of_sent (λ (s : Sent). IsOwn shape run.journal s.message) run.sent place at held.sound.sent there in
+    let b : bucket_in at.message < shape.buckets = own.0 in
+    let m : bucket_in at.message ≡ bucket_in message = ap bucket_in same in
+    let e : site.events.buckets ≡ shape.buckets = held.events.buckets in
+    omega arith
+
+-- the step at a place where there is a message
+pub deliver_there : (shape : Shape) (run : Progress) (place : ℕ) (at : Sent) → slice_get run.sent place ≡ Some at → deliver_step shape place run ≡ record { run = delivered_message place at.message run; outcome = answer_outcome (answer_to (fed_by shape run) at.message) }
+unfolding deliver_step
+deliver_there shape run place at there = ap (λ (x : Option Sent). option_map_or (λ sent. record { run = delivered_message place sent.message run; outcome = answer_outcome (answer_to (fed_by shape run) sent.message) }) x (unchanged run (outcomes.NoMessage place (length run.sent)))) there
+
+-- a site that a message reached, however its parts are made
+pub site_delivered : (shape : Shape) (old new : Site) (file : List ℕ) (run : Progress) (place : ℕ) (message : Message) (answer : Received) → IsSite shape old file run →
+    ((ss : List Sent) (ds : List ℕ) → HoldsSent old.outbox ss ds → option_map (λ sent. sent.message) (slice_get ss place) ≡ Some message) →
+    ((ss : List Sent) (ds : List ℕ) → HoldsSent old.outbox ss ds → HoldsSent new.outbox ss (place ∷ ds)) →
+    ((fed : Fed) → StandsFor old.events fed → answer ≡ answer_to fed message) →
+    ((fed : Fed) → StandsFor old.events fed → StandsFor new.events (record fed { received = message ∷ fed.received })) →
+    new ≡ record old { outbox = new.outbox; events = new.events } →
+    IsSite shape new file (deliver_step shape place run).run × (answer_outcome answer ≡ (deliver_step shape place run).outcome)
+site_delivered shape old new file run place message answer held is outbox answers events rest =
+    let (at, there, same) = some_message run.sent place message (is run.sent run.delivered held.outbox) in
+    let step = deliver_there shape run place at there in
+    let m : message ≡ at.message = sym same in
+    let after : IsSite shape (record old { outbox = new.outbox; events = new.events }) file (delivered_message place at.message run) = record {
+      declared = held.declared;
+      sound = sound_delivered shape place run at held.sound there;
+      fits = held.fits;
+      id = held.id;
+      mapped = held.mapped;
+      clock = held.clock;
+      rows = held.rows;
+      count = held.count;
+      nodes = held.nodes;
+      outbox = outbox run.sent run.delivered held.outbox;
+      events = subst (λ (m : Message). StandsFor new.events (record { buckets = shape.buckets; last = run.last; received = m ∷ run.received })) m (events (fed_by shape run) held.events);
+      written = held.written;
+      last = held.last;
+      log = held.log;
+      length_is = held.length_is;
+      made = held.made;
+      few = held.few;
+      size = held.size;
+    } in (
+      subst (λ (s : Stepped). IsSite shape new file s.run) (sym step) (subst (λ (s : Site). IsSite shape s file (delivered_message place at.message run)) (sym rest) after),
+      ap answer_outcome (answers (fed_by shape run) held.events ∙ ap (answer_to (fed_by shape run)) m) ∙ sym (ap (λ (s : Stepped). s.outcome) step),
+    )
+
+-- a place behind all messages
+pub none_there : (sent : List Sent) (place : ℕ) → length sent ≤ place → slice_get sent place ≡ None
+none_there [] place over = refl
+none_there (s ∷ sent) zero over = absurd (omega arith)
+none_there (s ∷ sent) (suc place) over = none_there sent place (omega arith)
+
+pub not_delivered : (shape : Shape) (site : Site) (file : List ℕ) (run : Progress) (place count : ℕ) → IsSite shape site file run → count ≡ count_in site.outbox → count ≤ place →
+    IsSite shape site file (deliver_step shape place run).run × (outcomes.NoMessage place count ≡ (deliver_step shape place run).outcome)
+unfolding deliver_step
+not_delivered shape site file run place count held is over =
+    let n : count ≡ length run.sent = is ∙ ap length held.outbox.sent_is in
+    let step : deliver_step shape place run ≡ unchanged run (outcomes.NoMessage place (length run.sent)) =
+    ap (λ (x : Option Sent). option_map_or (λ sent. record { run = delivered_message place sent.message run; outcome = answer_outcome (answer_to (fed_by shape run) sent.message) }) x (unchanged run (outcomes.NoMessage place (length run.sent)))) (none_there run.sent place (omega arith)) in
+    (subst (λ (s : Stepped). IsSite shape site file s.run) (sym step) held, ap (outcomes.NoMessage place) n ∙ sym (ap (λ (s : Stepped). s.outcome) step))
+
+-- two facts on Ok
+pub if_ok_both : {X E : Type 0} → (result : Result X E) (P Q : X → Type 0) (R : Type 0) → IfOk result P → OnOk result R → ((x : X) → P x → R → Q x) → IfOk result Q
+if_ok_both (Ok x) P Q R p r f = f x p r
+if_ok_both (Err e) P Q R p r f = tt

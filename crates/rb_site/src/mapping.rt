@@ -1,0 +1,34 @@
+ghost use Rattle.std.specs.Prelude.{◌≡◌, ◌<◌, ◌^◌, length, IfOk};
+ghost use Rattle.rb_journal_defs.specs.Body.{mapped_table, mapped_tables};
+
+use rb_base::{Bytes, Column, Columns, Mapped, MappedTables, NoMemory, Schema};
+use std::alloc::Global;
+
+/// The declared tables, numbered from 1, as the log names them.
+pub(crate) fn map_tables(alloc: Global, schemas: &[Schema]) -> Result<MappedTables, NoMemory>
+    requires few { length schemas.now < 2 ^ 16 }
+    ensures { IfOk result (λ tables. tables ≡ mapped_tables schemas.now) }
+{
+    let mut tables = MappedTables::new(alloc);
+    for number in 0..schemas.len() {
+        tables.push(map_table(alloc, number as u16 + 1, &schemas[number])?)?;
+    }
+    Ok(tables)
+}
+
+// A table of this number: its schema is `db`, and its key stands before its columns.
+fn map_table(alloc: Global, id: u16, schema: &Schema) -> Result<Mapped, NoMemory>
+    ensures { IfOk result (λ table. table ≡ mapped_table (id, schema.now)) }
+{
+    let mut columns = Columns::new(alloc);
+    columns.push(Column::Num)?;
+    for column in schema.columns.as_slice() {
+        columns.push(*column)?;
+    }
+    Ok(Mapped {
+        id,
+        schema: Bytes::from_vec(Vec::from_slice(alloc, b"db")?),
+        name: schema.name.copy(alloc)?,
+        columns,
+    })
+}

@@ -1,0 +1,147 @@
+-- What a line says keeps to, by its words alone.
+use Rattle.std.proofs.Common.{◌≡◌, ℕ, ◌≤◌, Bool, true, false, List, [], ◌∷◌, length, map, Option, Some, None, refl}
+use Rattle.std.specs.Prelude.{nat_le, ◌&&◌, if◌then◌else◌, codes, ⊤, IfSome}
+use Rattle.std.specs.List.{AllByRecursion, list_all, slice_split}
+use Rattle.std.specs.Option.{option_map}
+use Rattle.std.proofs.lemmas.Bool.{leb-true, and_parts}
+use Rattle.rb_base.specs.declared.site.SiteId.{SiteId}
+use Rattle.rb_base.specs.declared.site.SiteId.TheVariants.{A}
+use Rattle.rb_base.specs.declared.schema.Column.{Column}
+use Rattle.rb_base.specs.declared.schema.Column.TheVariants.{Num}
+use Rattle.rb_base.specs.declared.schema.Schema.{Schema}
+use Rattle.rb_base.specs.declared.script.Event.{Event}
+use Rattle.rb_base.specs.declared.script.Event.TheVariants as events
+use Rattle.rb_text_defs.specs.Words.{Word, Plain, Quoted, ◌>>=◌, all_of, begins_with, is_letter, is_name, is_name_byte, name_of, number_of, words_of, is_line_byte, is_skipped}
+use Rattle.rb_text_defs.specs.Form.{Form, SiteLine, TableLine, TxLine, EventLine, Reading, Wrong, Skipped, Says, deliver_line, form_from, form_of, is_word, operation_of, reading_of, says, site_event, site_line, site_of, small_number_of, table_line, tx_line, type_of}
+use Rattle.rb_text_defs.specs.Legal.{IsLegalEvent, changes_in_event}
+
+-- what a form keeps to: a name's length, numbers for columns, site A, and no changes outside transactions
+abbrev pub IsSaid : Form → Type 0
+IsSaid (SiteLine site groups replicas limit) = ⊤
+IsSaid (TableLine name columns) = (length name ≤ 32) × AllByRecursion (λ column. column ≡ Num) columns
+IsSaid (TxLine site operations) = site ≡ A
+IsSaid (EventLine event) = ((tables : List Schema) → IsLegalEvent tables event) × (changes_in_event event ≡ 0)
+
+if_bound : {X Y : Type 0} (P : X → Type 0) (Q : Y → Type 0) (value : Option X) (next : X → Option Y) → IfSome value P → ((x : X) → P x → IfSome (next x) Q) → IfSome (value >>= next) Q
+if_bound P Q None next here then' = tt
+if_bound P Q (Some x) next here then' = then' x here
+
+if_mapped : {X Y : Type 0} (P : X → Type 0) (Q : Y → Type 0) (f : X → Y) (value : Option X) → IfSome value P → ((x : X) → P x → Q (f x)) → IfSome (option_map f value) Q
+if_mapped P Q f None here then' = tt
+if_mapped P Q f (Some x) here then' = then' x here
+
+if_chosen : {Y : Type 0} (Q : Y → Type 0) (b : Bool) (here other : Option Y) → IfSome here Q → IfSome other Q → IfSome (if b then here else other) Q
+if_chosen Q true here other p q = p
+if_chosen Q false here other p q = q
+
+if_any : {X : Type 0} (value : Option X) → IfSome value (λ x. ⊤)
+if_any None = tt
+if_any (Some x) = tt
+
+site_said : (word : Word) → IfSome (site_of word) (λ site. site ≡ A)
+site_said word = if_chosen (λ site. site ≡ A) (is_word (codes "A") word) (Some A) None refl tt
+
+name_said : (word : Word) → IfSome (name_of word) (λ name. length name ≤ 32)
+unfolding name_of is_name
+name_said (Quoted text) = tt
+name_said (Plain bytes) = go (nat_le (length bytes) 32 && begins_with is_letter bytes && list_all is_name_byte bytes) (λ is. leb-true (length bytes) 32 (and_parts _ _ (and_parts _ _ is).0).0)
+  where
+    go : (b : Bool) → (b ≡ true → length bytes ≤ 32) → IfSome (if b then Some bytes else None) (λ name. length name ≤ 32)
+    go true few = few refl
+    go false few = tt
+
+columns_said : (words : List Word) → IfSome (all_of (map type_of words)) (AllByRecursion (λ column. column ≡ Num))
+columns_said [] = tt
+columns_said (word ∷ words) = pick (is_word (codes "num") word) (map type_of words) (columns_said words)
+  where
+    more : (others : Option (List Column)) → IfSome others (AllByRecursion (λ column. column ≡ Num)) → IfSome (option_map (λ others. Num ∷ others) others) (AllByRecursion (λ column. column ≡ Num))
+    more None all = tt
+    more (Some others) all = (refl, all)
+
+    pick : (b : Bool) (values : List (Option Column)) → IfSome (all_of values) (AllByRecursion (λ column. column ≡ Num))
+        → IfSome (all_of ((if b then Some Num else None) ∷ values)) (AllByRecursion (λ column. column ≡ Num))
+    pick true values all = more (all_of values) all
+    pick false values all = tt
+
+site_line_said : (words : List Word) → IfSome (site_line words) IsSaid
+unfolding site_line
+site_line_said [] = tt
+site_line_said (a ∷ []) = tt
+site_line_said (a ∷ b ∷ []) = tt
+site_line_said (a ∷ b ∷ c ∷ []) = tt
+site_line_said (a ∷ b ∷ c ∷ d ∷ []) = tt
+site_line_said (a ∷ b ∷ c ∷ d ∷ e ∷ []) = tt
+site_line_said (a ∷ b ∷ c ∷ d ∷ e ∷ f ∷ []) = tt
+site_line_said (a ∷ b ∷ c ∷ d ∷ e ∷ f ∷ g ∷ h ∷ words) = tt
+site_line_said (a ∷ b ∷ c ∷ d ∷ e ∷ f ∷ g ∷ []) =
+    if_bound (λ x. ⊤) IsSaid (site_of a) _ (if_any (site_of a)) (λ id _.
+    if_bound (λ x. ⊤) IsSaid (small_number_of c) _ (if_any (small_number_of c)) (λ in_groups _.
+    if_bound (λ x. ⊤) IsSaid (small_number_of e) _ (if_any (small_number_of e)) (λ of_nodes _.
+    if_bound (λ x. ⊤) IsSaid (number_of g) _ (if_any (number_of g)) (λ rotation _.
+    if_chosen IsSaid (is_word (codes "groups") b && is_word (codes "replicas") d && is_word (codes "limit") f) (Some (SiteLine id in_groups of_nodes rotation)) None tt tt))))
+
+table_line_said : (words : List Word) → IfSome (table_line words) IsSaid
+unfolding table_line
+table_line_said [] = tt
+table_line_said (name ∷ types) =
+    if_bound (λ name. length name ≤ 32) IsSaid (name_of name) _ (name_said name) (λ table few.
+    if_bound (AllByRecursion (λ column. column ≡ Num)) IsSaid (all_of (map type_of types)) _ (columns_said types) (λ columns all. (few, all)))
+
+tx_line_said : (words : List Word) → IfSome (tx_line words) IsSaid
+unfolding tx_line
+tx_line_said [] = tt
+tx_line_said (site ∷ words) =
+    if_bound (λ site. site ≡ A) IsSaid (site_of site) _ (site_said site) (λ id is.
+    if_bound (λ x. ⊤) IsSaid (all_of (map operation_of (slice_split (is_word (codes ";")) words))) _ (if_any (all_of (map operation_of (slice_split (is_word (codes ";")) words)))) (λ operations _. is))
+
+site_event_said : (event : SiteId → Event) → ((site : SiteId) → site ≡ A → ((tables : List Schema) → IsLegalEvent tables (event site)) × (changes_in_event (event site) ≡ 0)) → (words : List Word) → IfSome (site_event event words) IsSaid
+unfolding site_event
+site_event_said event legal [] = tt
+site_event_said event legal (site ∷ []) = if_mapped (λ site. site ≡ A) IsSaid (λ id. EventLine (event id)) (site_of site) (site_said site) legal
+site_event_said event legal (site ∷ next ∷ words) = tt
+
+deliver_line_said : (words : List Word) → IfSome (deliver_line words) IsSaid
+unfolding deliver_line
+deliver_line_said [] = tt
+deliver_line_said (site ∷ []) = tt
+deliver_line_said (site ∷ what ∷ next ∷ words) = tt
+deliver_line_said (site ∷ what ∷ []) =
+    if_bound (λ site. site ≡ A) IsSaid (site_of site) _ (site_said site) (λ id is.
+    if_chosen IsSaid (is_word (codes "all") what) (Some (EventLine (events.DeliverAll id))) (option_map (λ place. EventLine (events.Deliver id place)) (number_of what))
+    ((λ tables. is), refl) (if_mapped (λ x. ⊤) IsSaid (λ place. EventLine (events.Deliver id place)) (number_of what) (if_any (number_of what)) (λ place _. ((λ tables. is), refl))))
+
+form_from_said : (first : Word) (words : List Word) → IfSome (form_from first words) IsSaid
+unfolding form_from
+form_from_said first words =
+    if_chosen IsSaid (is_word (codes "site") first) (site_line words) _ (site_line_said words)
+    (if_chosen IsSaid (is_word (codes "table") first) (table_line words) _ (table_line_said words)
+    (if_chosen IsSaid (is_word (codes "tx") first) (tx_line words) _ (tx_line_said words)
+    (if_chosen IsSaid (is_word (codes "epoch") first) (site_event (λ site. events.Close site false) words) _ (site_event_said (λ site. events.Close site false) (λ site is. ((λ tables. is), refl)) words)
+    (if_chosen IsSaid (is_word (codes "gcp") first) (site_event (λ site. events.Close site true) words) _ (site_event_said (λ site. events.Close site true) (λ site is. ((λ tables. is), refl)) words)
+    (if_chosen IsSaid (is_word (codes "deliver") first) (deliver_line words) _ (deliver_line_said words)
+    (if_chosen IsSaid (is_word (codes "inject") first) (site_event (λ site. events.Inject site) words) _ (site_event_said (λ site. events.Inject site) (λ site is. ((λ tables. is), refl)) words)
+    (if_chosen IsSaid (is_word (codes "log") first) (site_event (λ site. events.Log site) words) None (site_event_said (λ site. events.Log site) (λ site is. ((λ tables. is), refl)) words) tt)))))))
+
+form_said : (words : List Word) → IfSome (form_of words) IsSaid
+unfolding form_of
+form_said [] = tt
+form_said (first ∷ words) = form_from_said first words
+
+-- a line's form keeps to it
+abbrev pub IsSaidBy : Reading → Type 0
+IsSaidBy Wrong = ⊤
+IsSaidBy Skipped = ⊤
+IsSaidBy (Says form) = IsSaid form
+
+pub reading_said : (line : List ℕ) → IsSaidBy (reading_of line)
+unfolding reading_of
+reading_said line = pick (list_all is_line_byte line) (is_skipped line) (words_of line >>= form_of) (if_bound (λ x. ⊤) IsSaid (words_of line) form_of (if_any (words_of line)) (λ words _. form_said words))
+  where
+    said : (form : Option Form) → IfSome form IsSaid → IsSaidBy (says form)
+    said None here = tt
+    said (Some form) here = here
+
+    pick : (all skipped : Bool) (form : Option Form) → IfSome form IsSaid → IsSaidBy (if all then (if skipped then Skipped else says form) else Wrong)
+    pick false skipped form here = tt
+    pick true true form here = tt
+    pick true false form here = said form here

@@ -1,0 +1,72 @@
+-- What a legal script keeps to: the limits, and operations that suit the tables.
+use Rattle.std.specs.Prelude.{◌≡◌, ℕ, ◌-◌, ◌≤◌, true, List, [], ◌∷◌, length, sum_by, Option, Some, None}
+use Rattle.std.specs.List.{AllByRecursion, slice_get}
+use Rattle.std.specs.Option.{option_map_or}
+use Rattle.rb_base.specs.declared.site.SiteId.TheVariants.{A}
+use Rattle.rb_base.specs.declared.schema.Column.{Column}
+use Rattle.rb_base.specs.declared.schema.Column.TheVariants.{Num}
+use Rattle.rb_base.specs.declared.schema.Schema.{Schema}
+use Rattle.rb_base.specs.declared.row.Row.{Row}
+use Rattle.rb_base.specs.declared.row.Value.{Value}
+use Rattle.rb_base.specs.declared.row.Value.TheVariants as values
+use Rattle.rb_base.specs.declared.script.Op.{Op}
+use Rattle.rb_base.specs.declared.script.Op.TheVariants.{Ins, Upd, Put, Del}
+use Rattle.rb_base.specs.declared.script.ClientOp.{ClientOp}
+use Rattle.rb_base.specs.declared.script.Event.{Event}
+use Rattle.rb_base.specs.declared.script.Event.TheVariants as events
+use Rattle.rb_text_defs.specs.declared.script.Script.{Script}
+use Rattle.rb_text_defs.specs.Script.{most_lines, most_tables, most_columns, most_groups, most_replicas, default_limit, most_changes, suits_columns}
+
+-- a table whose name and columns keep to the limits; its columns are numbers for now
+pub record IsLegalTable (table : Schema) : Type 0 where
+  pub name : length table.name ≤ 32
+  pub few : length table.columns ≤ most_columns
+  pub numbers : AllByRecursion (λ column. column ≡ Num) table.columns
+
+-- the columns of the table of this number, without its key
+abbrev pub columns_at : List Schema → (number : ℕ) → List Column
+columns_at tables number = option_map_or (λ table. table.columns) (slice_get tables (number - 1)) []
+
+-- a row has this key first, and then values that suit these columns
+abbrev pub IsLegalRow : List Column → (key : ℕ) → Option Row → Type 0
+IsLegalRow columns key None = ⊥
+IsLegalRow columns key (Some row) = (others : List Value) × (row.values ≡ values.Num key ∷ others) × (suits_columns columns others ≡ true)
+
+-- the row that an operation of this kind has
+abbrev pub HasLegalRow : Op → List Column → (key : ℕ) → Option Row → Type 0
+HasLegalRow Ins columns key row = IsLegalRow columns key row
+HasLegalRow Upd columns key row = IsLegalRow columns key row
+HasLegalRow Put columns key row = IsLegalRow columns key row
+HasLegalRow Del columns key row = row ≡ None
+
+-- an operation on a declared table, with the row that it needs
+pub record IsLegalOperation (tables : List Schema) (operation : ClientOp) : Type 0 where
+  pub some : 1 ≤ operation.table
+  pub declared : operation.table ≤ length tables
+  pub row : HasLegalRow operation.op (columns_at tables operation.table) operation.key operation.row
+
+-- an event that runs
+abbrev pub IsLegalEvent : List Schema → Event → Type 0
+IsLegalEvent tables (events.Tx site operations) = (site ≡ A) × AllByRecursion (IsLegalOperation tables) operations
+IsLegalEvent tables (events.Close site gci) = site ≡ A
+IsLegalEvent tables (events.Deliver site place) = site ≡ A
+IsLegalEvent tables (events.DeliverAll site) = site ≡ A
+IsLegalEvent tables (events.Inject site) = site ≡ A
+IsLegalEvent tables (events.Log site) = site ≡ A
+IsLegalEvent tables event = ⊥
+
+-- how many changes an event may make
+abbrev pub changes_in_event : Event → ℕ
+changes_in_event (events.Tx site operations) = length operations
+changes_in_event event = 0
+
+-- a script that keeps to the limits
+pub record IsLegal (script : Script) : Type 0 where
+  pub groups : (1 ≤ script.setup.a.groups) × (script.setup.a.groups ≤ most_groups)
+  pub replicas : (1 ≤ script.setup.a.replicas) × (script.setup.a.replicas ≤ most_replicas)
+  pub limit : script.setup.a.limit ≡ default_limit
+  pub few_tables : length script.setup.tables ≤ most_tables
+  pub tables : AllByRecursion IsLegalTable script.setup.tables
+  pub events : AllByRecursion (λ lined. IsLegalEvent script.setup.tables lined.event) script.events
+  pub few_events : length script.events ≤ most_lines
+  pub few_changes : sum_by (λ lined. changes_in_event lined.event) script.events ≤ most_changes
