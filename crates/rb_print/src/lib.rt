@@ -2,8 +2,8 @@
 //!
 //! The contract of each call is that its text is the one that the definitions give: the line of an event with what it did,
 //! the lines of a table, and the line of a log. That the report is its title, these pieces in order and its end is a law in
-//! `proofs/`. Below it stand the types and the definition of the report; above it stands the program, which writes the
-//! pieces out as they are made.
+//! `proofs/`. Below it stand the types and the definition of the report; above it stands the program, which gathers
+//! the pieces and writes them out behind the run.
 #![tactic(auto)]
 
 mod lines;

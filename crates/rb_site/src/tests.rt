@@ -128,6 +128,16 @@ fn number_at(tables: &Tables, key: u64) -> Option<u64> {
     }
 }
 
+// The author of the row of a key.
+fn author_at(tables: &Tables, key: u64) -> Option<u32> {
+    Some(tables.get(1, key)?.author)
+}
+
+// The epoch in which it was stored.
+fn epoch_at(tables: &Tables, key: u64) -> Option<Epoch> {
+    Some(tables.get(1, key)?.epoch)
+}
+
 #[test]
 fn rows_are_inserted_and_their_epoch_closes(rt: HostRuntime) -> Result<(), Fail> {
     let alloc = rt.alloc();
@@ -214,6 +224,8 @@ fn the_readers_tell_the_site(rt: HostRuntime) -> Result<(), Fail> {
     assert_eq!(rt; number_at(site.tables(), 5), Some(7));
     assert_eq!(rt; number_at(site.tables(), 6), Some(8));
     assert_eq!(rt; number_at(site.tables(), 7), None);
+    assert_eq!(rt; author_at(site.tables(), 5), Some(1));
+    assert_eq!(rt; epoch_at(site.tables(), 5), Some(Epoch(4294967296)));
     assert_eq!(rt; site.open(), Epoch(4294967297));
     assert_eq!(rt; site.written(), 1);
     assert_eq!(rt; site.last_written(), Epoch(4294967296));

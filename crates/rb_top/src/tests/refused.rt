@@ -19,13 +19,15 @@ const LOG_LIMIT: ScriptKind = ScriptKind::Limit(Limit::LogLimit);
 const COLUMNS: ScriptKind = ScriptKind::Limit(Limit::Columns);
 
 /// Short scripts that are refused, each with its first bad line and what is wrong there.
-const REFUSED: [(&[u8], u32, ScriptKind); 34] = [
+const REFUSED: [(&[u8], u32, ScriptKind); 36] = [
     // Forms.
     (b"frob\n", 1, SYNTAX),
     (b"log A\n \tfrob", 2, SYNTAX),
     (b"deliver A 18446744073709551616\n", 1, SYNTAX),
     (b"deliver A 000000000000000000001\n", 1, SYNTAX),
     (b"deliver B 0\n", 1, SYNTAX),
+    (b"fail A 1\n", 1, SYNTAX),
+    (b"# x\r\n\r\n\tfrob\r\n", 3, SYNTAX),
     (b"table abcdefghijklmnopqrstuvwxyz_123456 num\n", 1, SYNTAX),
     (b"table aB num\n", 1, SYNTAX),
     (b"table t text:991\n", 1, SYNTAX),

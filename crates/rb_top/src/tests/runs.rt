@@ -329,3 +329,95 @@ fn other_words(rt: HostRuntime) -> Result<(), Fail> {
     }
     Ok(())
 }
+
+/// Two groups of two nodes and two tables: messages out of order, one of them lost for a while, and epochs that wait for it.
+const LOST: &[u8] =
+    b"# A site of two node groups with two nodes each, so with four buckets, and two tables.
+site A groups 2 replicas 2 limit 1048576
+table item num num
+table stock num
+
+tx A ins item 1 10 100 ; ins stock 1 5
+tx A ins item 2 20 200
+tx A ins item 2 0 0
+epoch A
+
+# Messages out of order, one of them twice. The one at place 2 is lost for now.
+deliver A 6
+deliver A 0
+deliver A 0
+deliver A 1
+deliver A 3
+deliver A 4
+deliver A 5
+deliver A 99
+inject A
+
+# The next epoch is there whole, but it waits for the one before it.
+tx A upd stock 1 4 ; del item 2
+gcp A
+deliver A 7
+deliver A 8
+deliver A 9
+deliver A 10
+deliver A 11
+deliver A 12
+inject A
+
+# The lost message comes after all, and once more when nobody waits for it.
+deliver A 2
+inject A
+deliver A 2
+
+tx A put item 9 90 900
+epoch A
+log A
+";
+
+const LOST_REPORT: &[u8] = b"ndb replication report
+6 ok transid=1 epoch=4294967296 sent=2
+7 ok transid=2 epoch=4294967296 sent=3
+8 key there 0
+9 closed 4294967296 sent=7
+12 kept
+13 kept
+14 known
+15 kept
+16 kept
+17 kept
+18 kept
+19 no message 99 7
+20 wrote 0 written=0 missing=3:1
+23 ok transid=3 epoch=4294967297 sent=9
+24 closed 4294967297 sent=13
+25 kept
+26 kept
+27 kept
+28 kept
+29 kept
+30 kept
+31 wrote 0 written=0 missing=3:1
+34 kept
+35 wrote 2 written=4294967297 missing=0:done
+36 old
+38 ok transid=4 epoch=8589934592 sent=14
+39 closed 8589934592 sent=18
+40 delivered kept=5 known=0 old=0 wrote 1 written=8589934592 missing=0:done
+log A files=1 epochs=3 written=8589934592
+table A item rows=2
+row 1 10 100
+row 9 90 900
+table A stock rows=1
+row 1 4
+end
+";
+
+// The first epoch has three inserts, the second an update and a remove, and the third an insert: 461, 414 and 296 bytes.
+#[test]
+fn a_lost_message(rt: HostRuntime) -> Result<(), Fail> {
+    let left = run_script(&rt, rt.alloc(), LOST)?;
+    assert_eq!(rt; left.status, Status::Done);
+    assert_eq!(rt; left.sink.bytes(), LOST_REPORT);
+    assert_eq!(rt; left.disk_a.file(1).len(), 1286);
+    Ok(())
+}
