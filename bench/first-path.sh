@@ -20,9 +20,10 @@ MOST_TIMES_MEMORY = 4
 
 
 def model_of(lines):
-    """A script of so many lines: one table, then inserts spread evenly, and between them closes and log writes in turn."""
+    """A script of so many lines: one node and one table, then inserts spread evenly, and between them closes and log writes in
+    turn."""
     model = Model()
-    rest = lines - 1
+    rest = lines - len(model.lines)
     inserted, closes = 0, False
     for at in range(rest):
         if at * INSERTS // rest != (at - 1) * INSERTS // rest:

@@ -1,9 +1,10 @@
-"""What the benchmarks share: a model of a site of one bucket, which tells the report that a script must have, and measuring."""
+"""What the benchmarks share: a model of a site, which tells the report that a script must have, and measuring."""
 import subprocess
 import sys
 import time
 
 FIRST_EPOCH = 2**32
+END = "done"
 RUNS = 9
 
 # The bytes of a log: the magic and the format event, and then for each epoch of so many inserts of rows of two numbers BEGIN, two
@@ -14,33 +15,55 @@ LOG_CHANGE = 57
 
 
 class Model:
-    """A site with the table `t num`, one group and one node. It knows a message by its place in what was sent, and an epoch by
-    the places of its messages. Each method is a line of a script, and appends that line and its answer."""
+    """A site with the table `t num`. A message is an epoch, a bucket, and a place among the bucket's changes in the epoch, or
+    END. Each method is a line of a script, and appends that line and its answer. The script loses no group."""
 
-    def __init__(self):
-        self.lines = ["table t num"]
+    def __init__(self, groups=1, replicas=1):
+        self.lines = [f"site A groups {groups} replicas {replicas} limit 1048576", "table t num"]
         self.answers = []
         self.rows = {}
         self.open = FIRST_EPOCH
         self.drawn = 0
-        self.epoch_of = []      # by place
-        self.received = set()
-        self.delivered = set()
-        self.fresh = []         # the places sent since the last delivery of all
-        self.closed = []        # (epoch, changes, places), the oldest first, of those that are not taken
-        self.places = []        # of the open epoch
+        self.replicas = replicas
+        self.buckets = range(groups * replicas)
+        self.owners = list(self.buckets)
+        self.since = [FIRST_EPOCH for _ in self.buckets]    # by node, None where it is down
+        self.failed_at = [0 for _ in self.buckets]          # by node: how many messages were sent then
+        self.sent = []              # (message, sender), by place
+        self.resent = 0
+        self.received = set()       # messages
+        self.delivered = set()      # places
+        self.fresh = []             # the places sent since the last delivery of all
+        self.counts = [0 for _ in self.buckets]             # of changes in the open epoch
+        self.untaken = []           # (epoch, counts), the oldest first, of those that are closed and not taken
+        self.unacknowledged = []    # the same of those above the last that is written
         self.taken = 0
-        self.written = []       # (epoch, changes)
+        self.written = []           # (epoch, changes)
 
     def _say(self, line, answer):
         self.lines.append(line)
         self.answers.append(f"{len(self.lines)} {answer}")
 
-    def _send(self):
-        place = len(self.epoch_of)
-        self.epoch_of.append(self.open)
-        self.places.append(place)
-        self.fresh.append(place)
+    def _send(self, sender, epoch, bucket, place):
+        self.fresh.append(len(self.sent))
+        self.sent.append(((epoch, bucket, place), sender))
+
+    def _send_again(self, sender, bucket):
+        before = len(self.sent)
+        for epoch, counts in self.unacknowledged:
+            for place in [*range(counts[bucket]), END]:
+                self._send(sender, epoch, bucket, place)
+        for place in range(self.counts[bucket]):
+            self._send(sender, self.open, bucket, place)
+        self.resent += len(self.sent) - before
+
+    def _covers(self, node):
+        needed = self.unacknowledged[0][0] if self.unacknowledged else self.open
+        return self.since[node] is not None and self.since[node] <= needed
+
+    def _group(self, node):
+        first = node - node % self.replicas
+        return range(first, first + self.replicas)
 
     def insert(self, key, value):
         line = f"tx A ins t {key} {value}"
@@ -48,36 +71,61 @@ class Model:
             return self._say(line, "key there 0")
         self.rows[key] = value
         self.drawn += 1
-        self._send()
-        self._say(line, f"ok transid={self.drawn} epoch={self.open} sent={len(self.epoch_of)}")
+        bucket = (key + 1) % len(self.buckets)
+        self._send(self.owners[bucket], self.open, bucket, self.counts[bucket])
+        self.counts[bucket] += 1
+        self._say(line, f"ok transid={self.drawn} epoch={self.open} sent={len(self.sent)}")
 
     def close(self):
-        changes = len(self.places)
-        self._send()
-        self.closed.append((self.open, changes, self.places))
-        self.places = []
-        self._say("epoch A", f"closed {self.open} sent={len(self.epoch_of)}")
-        self.open += 1
+        closed, self.open = self.open, self.open + 1
+        self.untaken.append((closed, self.counts))
+        self.unacknowledged.append((closed, self.counts))
+        self.counts = [0 for _ in self.buckets]
+        for first in self.buckets[::self.replicas]:
+            for bucket in self._group(first):
+                self._send(self.owners[bucket], closed, bucket, END)
+            for bucket in self._group(first):
+                if self.owners[bucket] != bucket and self._covers(bucket):
+                    self.owners[bucket] = bucket
+                    self._send_again(bucket, bucket)
+        self._say("epoch A", f"closed {closed} sent={len(self.sent)}")
+
+    def fail(self, node):
+        self.since[node] = None
+        self.failed_at[node] = len(self.sent)
+        group = self._group(node)
+        behind = [*group[node - group[0] + 1:], *group[:node - group[0]]]
+        successor = next(other for other in behind if self._covers(other))
+        orphans = [bucket for bucket in self.buckets if self.owners[bucket] == node]
+        for bucket in orphans:
+            self.owners[bucket] = successor
+            self._send_again(successor, bucket)
+        self._say(f"fail A {node}", f"failed takeover={len(orphans)} sent={len(self.sent)}")
+
+    def restart(self, node):
+        self.since[node] = self.open + 1
+        self._say(f"restart A {node}", f"restarted since={self.since[node]}")
 
     def _receive(self, place):
-        if self.epoch_of[place] <= self.taken:
+        message, _ = self.sent[place]
+        if message[0] <= self.taken:
             return "old"
-        if place in self.received:
+        if message in self.received:
             return "known"
-        self.received.add(place)
+        self.received.add(message)
         return "kept"
 
     def deliver(self, place):
         line = f"deliver A {place}"
-        if place >= len(self.epoch_of):
-            return self._say(line, f"no message {place} {len(self.epoch_of)}")
+        if place >= len(self.sent):
+            return self._say(line, f"no message {place} {len(self.sent)}")
         self.delivered.add(place)
         self._say(line, self._receive(place))
 
     def _deliver_all(self):
         counts = {"kept": 0, "known": 0, "old": 0}
         for place in self.fresh:
-            if place not in self.delivered:
+            if place not in self.delivered and place >= self.failed_at[self.sent[place][1]]:
                 counts[self._receive(place)] += 1
         self.fresh = []
         return "delivered kept={kept} known={known} old={old}".format(**counts)
@@ -85,21 +133,25 @@ class Model:
     def deliver_all(self):
         self._say("deliver A all", self._deliver_all())
 
+    def _missing(self):
+        """The first thing that the next epoch lacks, or None where it is whole."""
+        if not self.untaken:
+            return f"0:{END}"
+        epoch, counts = self.untaken[0]
+        wanted = ((bucket, place) for bucket in self.buckets for place in [END, *range(counts[bucket])])
+        return next((f"{bucket}:{place}" for bucket, place in wanted if (epoch, bucket, place) not in self.received), None)
+
     def _inject(self):
-        count = 0
-        while self.closed and all(place in self.received for place in self.closed[0][2]):
-            epoch, changes, _ = self.closed.pop(0)
-            self.taken = epoch
-            if changes:
-                self.written.append((epoch, changes))
-                count += 1
-        missing = "done"
-        if self.closed:
-            *changes, end = self.closed[0][2]
-            if end in self.received:
-                missing = next(at for at, place in enumerate(changes) if place not in self.received)
-        last = self.written[-1][0] if self.written else 0
-        return f"wrote {count} written={last} missing=0:{missing}"
+        before = len(self.written)
+        while not (missing := self._missing()):
+            self.taken, counts = self.untaken.pop(0)
+            if any(counts):
+                self.written.append((self.taken, sum(counts)))
+                self.unacknowledged = [closed for closed in self.unacknowledged if closed[0] > self.taken]
+        return f"wrote {len(self.written) - before} written={self._last()} missing={missing}"
+
+    def _last(self):
+        return self.written[-1][0] if self.written else 0
 
     def inject(self):
         self._say("inject A", self._inject())
@@ -111,9 +163,8 @@ class Model:
         return "\n".join(self.lines) + "\n"
 
     def report(self):
-        last = self.written[-1][0] if self.written else 0
         rows = [f"row {key} {value}" for key, value in sorted(self.rows.items())]
-        log = f"log A files=1 epochs={len(self.written)} written={last}"
+        log = f"log A files=1 epochs={len(self.written)} written={self._last()}"
         return "\n".join(["ndb replication report", *self.answers, log, f"table A t rows={len(rows)}", *rows, "end"]) + "\n"
 
     def log_bytes(self):

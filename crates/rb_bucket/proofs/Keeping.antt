@@ -11,7 +11,7 @@ use Rattle.std.proofs.Math.Dec.{eqb-suc-zero, eqb-zero-suc, eqb-suc-suc}
 use Rattle.std.proofs.lemmas.Bool.{cases_eq, cases_lt, le-leb, lt-leb, ne_eqb, eq-eqb, and_right}
 use Rattle.std.proofs.lemmas.Option.{slice_get_read, slice_get_past, get_or_from_slice_get}
 use Rattle.rb_base.specs.declared.change.Change.{Change}
-use Rattle.rb_bucket.specs.Bucket.{changes_in, with_change}
+use Rattle.rb_bucket.specs.Bucket.{changes_in, changes_at, with_change}
 
 -- what these buckets hold
 abbrev pub held_in : (first : ℕ) → List (BTreeMap ℕ (List Change)) → (epoch bucket : ℕ) → List Change
@@ -90,3 +90,17 @@ held_in_none first xs empty e b = go (cases_lt b first) (cases_lt (b - first) (l
     go (inl below) _ = rw (lt-leb first b below) refl
     go (inr above) (inl within) = rw (le-leb first b above) (at (slice_get xs (b - first)) refl within)
     go (inr above) (inr past) = rw (le-leb first b above, slice_get_past xs (b - first) past) refl
+
+-- the epochs up to one are forgotten
+pub held_behind : (first through : ℕ) (old new : List (BTreeMap ℕ (List Change))) →
+    ((place e : ℕ) → changes_at new place e ≡ (if nat_le e through then [] else changes_at old place e)) →
+    (e b : ℕ) → held_in first new e b ≡ (if nat_le e through then [] else held_in first old e b)
+held_behind first through old new kept e b = go (nat_le first b)
+  where
+    nothing : (behind : Bool) → ◌≡◌ {A = List Change} [] (if behind then [] else [])
+    nothing true = refl
+    nothing false = refl
+
+    go : (within : Bool) → (if within then changes_at new (b - first) e else []) ≡ (if nat_le e through then [] else (if within then changes_at old (b - first) e else []))
+    go true = kept (b - first) e
+    go false = nothing (nat_le e through)

@@ -1,1 +1,3 @@
+mod Forgetting
 mod Keeping
+mod Resending

@@ -1,17 +1,19 @@
-ghost use Rattle.std.specs.Prelude.{◌≡◌, ◌+◌, ◌-◌, ◌^◌, ◌<◌, ◌≤◌, ◌==◌, ℕ, if◌then◌else◌, length, [], ◌∷◌, ◌++◌, IfOk, OnOk, OnErr, IsSome};
+ghost use Rattle.std.specs.Prelude.{◌≡◌, ◌+◌, ◌-◌, ◌^◌, ◌<◌, ◌≤◌, ◌==◌, nat_le, nat_lt, ℕ, map, filter, if◌then◌else◌, length, [], ◌∷◌, ◌++◌, IfOk, OnOk, OnErr, IsSome};
 ghost use Rattle.std.specs.Ordering.{nat_cmp};
 ghost use Rattle.std.specs.BTreeMap as tree;
 ghost use Rattle.rb_bucket.specs.Bucket.{changes_in};
 
-use rb_base::{Change, Changes, Epoch, NoMemory};
+use crate::forget::{forget_closes, forget_in_all};
+use crate::resend::{changes_of, push_closed, push_parts};
+use rb_base::{Change, Changes, Epoch, Messages, NoMemory};
 use std::alloc::Global;
-use std::collections::BTreeMap;
+use std::collections::{BTreeMap, VecDeque};
 
 // An epoch that was closed, and the one that was closed before it.
 #[derive(Clone, Copy)]
-struct Close {
-    epoch: Epoch,
-    prev: Epoch,
+pub(crate) struct Close {
+    pub(crate) epoch: Epoch,
+    pub(crate) prev: Epoch,
 }
 
 /// The buffer of one data node, of the buckets of its group.
@@ -22,12 +24,13 @@ pub struct BucketBuffer {
     first: u32,
     // The changes by bucket, from the lowest, and by epoch.
     buckets: Vec<BTreeMap<u64, Changes>>,
-    closes: Vec<Close>,
+    // The closed epochs, the oldest first.
+    closes: VecDeque<Close>,
     since: Epoch,
 }
 
 impl BucketBuffer {
-    ghost use Rattle.rb_bucket.specs.Bucket.{changes_kept, closes_kept, since_of, IsBucketOf, with_change};
+    ghost use Rattle.rb_bucket.specs.Bucket.{changes_kept, closes_kept, since_of, IsBucketOf, with_change, Rising, messages_kept};
 
     /// An empty buffer of the buckets from `first` on, so many, that buffers from the epoch `since` on.
     pub fn new(
@@ -50,7 +53,7 @@ impl BucketBuffer {
             alloc,
             first,
             buckets: kept,
-            closes: Vec::new(alloc),
+            closes: VecDeque::new(alloc),
             since,
         })
     }
@@ -82,7 +85,7 @@ impl BucketBuffer {
         ensures since { since_of self.new ≡ since_of self.old }
         ensures buckets { (b : ℕ) → IsBucketOf self.old b → IsBucketOf self.new b }
     {
-        self.closes.push(Close { epoch, prev })?;
+        self.closes.push_back(Close { epoch, prev })?;
         Ok(())
     }
 
@@ -93,10 +96,39 @@ impl BucketBuffer {
         ensures { result ≡ length (changes_kept self.now epoch.0 bucket) }
     {
         let epochs = &self.buckets[(bucket - self.first) as usize];
-        match epochs.get(&epoch.0) {
-            Some(changes) => changes.as_slice().len() as u32,
-            None => 0,
+        changes_of(epochs, epoch.0).len() as u32
+    }
+
+    /// Forgets all changes and closes of epochs up to this one. It takes no memory. The closed epochs must rise.
+    pub fn release(&mut self, through: Epoch)
+        requires rising { (top : ℕ) × Rising top (map (λ close. close.0) (closes_kept self.old)) }
+        ensures kept { (e b : ℕ) → changes_kept self.new e b ≡ (if nat_le e through.0 then [] else changes_kept self.old e b) }
+        ensures closes { closes_kept self.new ≡ filter (λ close. nat_lt through.0 close.0) (closes_kept self.old) }
+        ensures since { since_of self.new ≡ since_of self.old }
+        ensures buckets { (b : ℕ) → IsBucketOf self.old b → IsBucketOf self.new b }
+    {
+        forget_in_all(&mut self.buckets, through.0);
+        forget_closes(&mut self.closes, through.0);
+    }
+
+    /// The messages that it holds of a bucket, in the order in which they are sent again, where this is the open epoch: in each
+    /// closed epoch, the oldest first, the Parts and then the Done, and at last the Parts of the open epoch.
+    pub fn messages(&self, bucket: u32, opened: Epoch) -> Result<Messages, NoMemory>
+        requires bucket { IsBucketOf self.now bucket }
+        requires fits { (e : ℕ) → length (changes_kept self.now e bucket) < 2 ^ 32 }
+        ensures { IfOk result (λ messages. messages ≡ messages_kept self.now bucket opened.0) }
+    {
+        let alloc = self.alloc;
+        let epochs = &self.buckets[(bucket - self.first) as usize];
+        let mut messages = Messages::new(alloc);
+        for index in 0..self.closes.len() {
+            let close = self.closes[index];
+            let changes = changes_of(epochs, close.epoch.0);
+            push_closed(alloc, &mut messages, bucket, close, changes)?;
         }
+        let changes = changes_of(epochs, opened.0);
+        push_parts(alloc, &mut messages, bucket, opened, changes)?;
+        Ok(messages)
     }
 
     /// The epoch from which on it buffers.

@@ -1,78 +1,174 @@
--- One node's buffer changed among all.
-use Rattle.std.proofs.Common.{◌≡◌, ◌⊎◌, inl, inr, ℕ, ◌+◌, ◌-◌, ◌^◌, ◌<◌, ◌≤◌, List, [], ◌∷◌, ◌++◌, length, set, get_or, refl, subst, sym, ap, ◌∙◌, arith}
-use Rattle.std.specs.Prelude.{◌==◌, ◌&&◌, if◌then◌else◌}
-use Rattle.std.specs.List.{All, AllByRecursion}
-use Rattle.std.proofs.lemmas.List.Elements.{All-from_recursion, recursion_from_All, All-set}
-use Rattle.std.specs.Prelude.{map}
-use Rattle.rb_message_defs.specs.Message.{home_node}
-use Rattle.rb_group.specs.Group.{Keeps, IsBucketOf, buckets_from}
-use Rattle.rb_group.specs.declared.group.Group.{Group}
-use Rattle.std.proofs.lemmas.Bool.{cases_eq}
-use Rattle.std.proofs.lemmas.List.{get_or-set_other, length-set}
-use Rattle.std.proofs.lemmas.Grind.{get_or-set_at}
+-- What one node's buffer holds, from one step to the next.
+use Rattle.std.proofs.Common.{◌≡◌, ◌⊎◌, inl, inr, ℕ, ◌+◌, ◌<◌, ◌≤◌, Bool, true, false, List, [], ◌∷◌, ◌++◌, length, map, refl, subst, sym, ap, ◌∙◌, arith}
+use Rattle.std.specs.Prelude.{◌==◌, ◌&&◌, if◌then◌else◌, nat_le, nat_lt, Option, Some, None, filter}
+use Rattle.std.specs.Option.{option_map}
+use Rattle.std.proofs.lemmas.Bool.{cases_eq, cases_lt, le-leb, lt-leb, lt-ltb, le-ltb, ne_eqb, and_right}
+use Rattle.std.proofs.lemmas.List.{append-nil}
+use Rattle.std.proofs.lemmas.List.Elements.{filter-append}
 use Rattle.rb_base.specs.declared.change.Change.{Change}
 use Rattle.rb_bucket.specs.Bucket as node
+use Rattle.rb_bucket.specs.Bucket.{Rising}
 use Rattle.rb_bucket.specs.declared.bucket.BucketBuffer.{BucketBuffer}
-use Rattle.rb_group.specs.Kept.{Kept, HoldsAll, with_one, with_close}
+use Rattle.rb_group.specs.Kept.{Kept, HoldsFrom, HoldsNode, with_part, only_closed, with_acknowledged}
+use Rattle.rb_group.specs.Group.{IsOrdered}
+use Rattle.rb_group.proofs.Lists.{rising_closes}
 
--- the buffers behind the one that is changed are as they were
-pub todo_more : (first now : List BucketBuffer) (at : ℕ) (new : BucketBuffer) → ((k : ℕ) (d : BucketBuffer) → at ≤ k → get_or now k d ≡ get_or first k d) →
-    (k : ℕ) (d : BucketBuffer) → at + 1 ≤ k → get_or (set now at new) k d ≡ get_or first k d
-todo_more first now at new todo k d above = get_or-set_other now at k new d (λ same. absurd (omega arith)) ∙ todo k d (omega arith)
+-- a node is up where there is a buffer, which knows its first epoch
+pub since_same : (b : Option BucketBuffer) (since : Option ℕ) (kept : Kept) → HoldsNode b since kept → since ≡ option_map node.since_of b
+since_same None None kept holds = refl
+since_same (Some b) (Some since) kept holds = ap Some (sym holds.since_is)
+since_same None (Some since) kept holds = absurd holds
+since_same (Some b) None kept holds = absurd holds
 
--- one more is done
-pub done_more : (P : BucketBuffer → Type 0) (now : List BucketBuffer) (at : ℕ) (new : BucketBuffer) → at < length now → P new →
-    ((k : ℕ) (d : BucketBuffer) → k < at → P (get_or now k d)) → (k : ℕ) (d : BucketBuffer) → k < at + 1 → P (get_or (set now at new) k d)
-done_more P now at new within here done k d below = go (cases_eq at k)
+-- what is held of an epoch that is buffered and not acknowledged
+pub held_here : (since : ℕ) (buffer : BucketBuffer) (kept : Kept) (e b : ℕ) → HoldsFrom since buffer kept → since ≤ e → kept.acknowledged < e → node.changes_kept buffer e b ≡ kept.changes e b
+held_here since buffer kept e b holds from above = holds.changes e b ∙ rw (le-leb since e from, lt-ltb kept.acknowledged e above) refl
+
+-- one change more
+pub holds_part : (since : ℕ) (old new : BucketBuffer) (bucket : ℕ) (change : Change) (kept : Kept) → HoldsFrom since old kept → since ≤ kept.opened → kept.acknowledged < kept.opened →
+    ((e b : ℕ) → node.changes_kept new e b ≡ node.with_change kept.opened bucket change (node.changes_kept old) e b) → node.closes_kept new ≡ node.closes_kept old →
+    node.since_of new ≡ node.since_of old → ((b : ℕ) → node.IsBucketOf old b → node.IsBucketOf new b) → HoldsFrom since new (with_part bucket change kept)
+holds_part since old new bucket change kept holds from above added closes same buckets = record {
+  changes = λ e b. added e b ∙ go e b (cases_eq kept.opened e);
+  closes = closes ∙ holds.closes;
+  since_is = same ∙ holds.since_is;
+  buckets = λ b low high. buckets b (holds.buckets b low high);
+}
   where
-    go : (at ≡ k) ⊎ (at ≡ k → ⊥) → P (get_or (set now at new) k d)
-    go (inl same) = subst P (sym (get_or-set_at now at k new d (sym same) within)) here
-    go (inr differs) = subst P (sym (get_or-set_other now at k new d (λ same. differs (sym same)))) (done k d (let h : k ≡ at → ⊥ = λ same. differs (sym same) in omega arith))
+    go : (e b : ℕ) → (kept.opened ≡ e) ⊎ (kept.opened ≡ e → ⊥) → node.with_change kept.opened bucket change (node.changes_kept old) e b
+        ≡ (if nat_le since e && nat_lt kept.acknowledged e then node.with_change kept.opened bucket change kept.changes e b else [])
+    go e b (inl is) =
+        let test : (nat_le since e && nat_lt kept.acknowledged e) ≡ true = rw (le-leb since e (omega arith), lt-ltb kept.acknowledged e (omega arith)) refl in
+        ap (λ (cs : List Change). if (kept.opened == e) && (bucket == b) then cs ++ change ∷ [] else cs) (held_here since old kept e b holds (omega arith) (omega arith))
+        ∙ sym (ap (λ (t : Bool). if t then node.with_change kept.opened bucket change kept.changes e b else []) test)
+    go e b (inr differs) = rw (ne_eqb kept.opened e differs) (holds.changes e b)
 
--- a buffer with one change more
-pub holds_one : (old new : BucketBuffer) (epoch bucket : ℕ) (change : Change) (kept : Kept) → HoldsAll old kept →
-    ((e b : ℕ) → node.changes_kept new e b ≡ node.with_change epoch bucket change (node.changes_kept old) e b) → node.closes_kept new ≡ node.closes_kept old → node.since_of new ≡ node.since_of old → HoldsAll new (with_one epoch bucket change kept)
-holds_one old new epoch bucket change kept holds added closes since =
-    (λ e b. added e b ∙ ap (λ (changes : List Change). if (epoch == e) && (bucket == b) then changes ++ change ∷ [] else changes) (holds.0 e b), closes ∙ holds.1, since ∙ holds.2)
+-- a change of an epoch that is not buffered yet
+pub skips_part : (since : ℕ) (buffer : BucketBuffer) (bucket : ℕ) (change : Change) (kept : Kept) → HoldsFrom since buffer kept → kept.opened < since →
+    HoldsFrom since buffer (with_part bucket change kept)
+skips_part since buffer bucket change kept holds early = record {
+  changes = λ e b. holds.changes e b ∙ go e b (cases_eq kept.opened e);
+  closes = holds.closes;
+  since_is = holds.since_is;
+  buckets = holds.buckets;
+}
+  where
+    go : (e b : ℕ) → (kept.opened ≡ e) ⊎ (kept.opened ≡ e → ⊥) → ◌≡◌ {A = List Change} (if nat_le since e && nat_lt kept.acknowledged e then kept.changes e b else [])
+        (if nat_le since e && nat_lt kept.acknowledged e then node.with_change kept.opened bucket change kept.changes e b else [])
+    go e b (inl is) = rw (lt-leb since e (omega arith)) refl
+    go e b (inr differs) = rw (ne_eqb kept.opened e differs) refl
 
--- a buffer that knows of one close more
-pub holds_close : (old new : BucketBuffer) (epoch prev : ℕ) (kept : Kept) → HoldsAll old kept →
-    ((e b : ℕ) → node.changes_kept new e b ≡ node.changes_kept old e b) → node.closes_kept new ≡ node.closes_kept old ++ (epoch, prev) ∷ [] → node.since_of new ≡ node.since_of old → HoldsAll new (with_close epoch prev kept)
-holds_close old new epoch prev kept holds same closed since =
-    (λ e b. same e b ∙ holds.0 e b, closed ∙ ap (λ (closes : List (ℕ × ℕ)). closes ++ (epoch, prev) ∷ []) holds.1, since ∙ holds.2)
-
--- one buffer more is changed as each is to be
-pub one_more : (P Q : BucketBuffer → Type 0) (first now : List BucketBuffer) (at : ℕ) (old new : BucketBuffer) → at < length now → length now ≡ length first → old ≡ get_or now at old →
-    ((k : ℕ) (d : BucketBuffer) → at ≤ k → get_or now k d ≡ get_or first k d) → (P old → Q new) → All P first →
-    ((k : ℕ) (d : BucketBuffer) → k < at → Q (get_or now k d)) → (k : ℕ) (d : BucketBuffer) → k < at + 1 → Q (get_or (set now at new) k d)
-one_more P Q first now at old new within count is todo step all done =
-    done_more Q now at new within (step (subst P (sym (is ∙ todo at old (omega arith))) (all at old (omega arith)))) done
-
--- one buffer is changed, and each is still of its bucket
-pub buckets_stay : (P : BucketBuffer → Type 0) (now : List BucketBuffer) (at : ℕ) (old new : BucketBuffer) → at < length now → old ≡ get_or now at old → (P old → P new) → All P now → All P (set now at new)
-buckets_stay P now at old new within is step all = All-set P now at new (step (subst P (sym is) (all at old within))) all
-
--- a group whose buffers all changed
-pub keeps_next : (old new : Group) (kept next : Kept) → Keeps old kept → new.first ≡ old.first → new.owners ≡ old.owners → length new.buffers.items ≡ length old.buffers.items → new.opened.0 ≡ next.opened →
-    All (λ buffer. HoldsAll buffer next) new.buffers.items →
-    ((b : ℕ) → All (λ buffer. node.IsBucketOf buffer b) old.buffers.items → All (λ buffer. node.IsBucketOf buffer b) new.buffers.items) → Keeps new next
-keeps_next old new kept next keeps first owners count opened holds buckets = record {
-  opened = opened;
-  nodes = recursion_from_All (λ buffer. HoldsAll buffer next) new.buffers.items holds;
-  buckets = recursion_from_All (λ buffer. (bucket : ℕ) → IsBucketOf new bucket → node.IsBucketOf buffer bucket) new.buffers.items
-      (λ k d within bucket is. buckets bucket (λ j e inside. All-from_recursion (λ buffer. (b : ℕ) → IsBucketOf old b → node.IsBucketOf buffer b) old.buffers.items keeps.buckets j e inside bucket
-      (let size : length new.owners.items ≡ length old.owners.items = ap (λ v. length v.items) owners in (omega (arith, is.0), omega (arith, is.1)))) k d within);
-  some = let h = keeps.some in omega arith;
-  fits = let h = keeps.fits in let size : length new.owners.items ≡ length old.owners.items = ap (λ v. length v.items) owners in omega arith;
-  owners = ap (λ v. v.items) owners ∙ keeps.owners ∙ ap (λ (f : ℕ). map home_node (buckets_from f (length old.owners.items))) (sym first)
-      ∙ ap (λ v. map home_node (buckets_from new.first (length v.items))) (sym owners);
+-- the open epoch is closed
+pub holds_close : (since : ℕ) (old new : BucketBuffer) (prev next : ℕ) (kept : Kept) → HoldsFrom since old kept → since ≤ kept.opened → kept.acknowledged < kept.opened →
+    ((e b : ℕ) → node.changes_kept new e b ≡ node.changes_kept old e b) → node.closes_kept new ≡ node.closes_kept old ++ (kept.opened, prev) ∷ [] →
+    node.since_of new ≡ node.since_of old → ((b : ℕ) → node.IsBucketOf old b → node.IsBucketOf new b) → HoldsFrom since new (only_closed prev next kept)
+holds_close since old new prev next kept holds from above same closed stays buckets = record {
+  changes = λ e b. same e b ∙ holds.changes e b;
+  closes = closed ∙ ap (λ (cs : List (ℕ × ℕ)). cs ++ (kept.opened, prev) ∷ []) holds.closes
+      ∙ sym (filter-append (λ (close : ℕ × ℕ). nat_le since close.0 && nat_lt kept.acknowledged close.0) kept.closes ((kept.opened, prev) ∷ [])
+      ∙ rw (le-leb since kept.opened from, lt-ltb kept.acknowledged kept.opened above) refl);
+  since_is = stays ∙ holds.since_is;
+  buckets = λ b low high. buckets b (holds.buckets b low high);
 }
 
--- all buffers hold what a group keeps
-pub all_hold : (group : Group) (kept : Kept) → Keeps group kept → All (λ buffer. HoldsAll buffer kept) group.buffers.items
-all_hold group kept keeps = All-from_recursion (λ buffer. HoldsAll buffer kept) group.buffers.items keeps.nodes
+-- an epoch is closed that is not buffered
+pub skips_close : (since : ℕ) (buffer : BucketBuffer) (prev next : ℕ) (kept : Kept) → HoldsFrom since buffer kept → kept.opened < since → HoldsFrom since buffer (only_closed prev next kept)
+skips_close since buffer prev next kept holds early = record {
+  changes = holds.changes;
+  closes = holds.closes
+      ∙ sym (filter-append (λ (close : ℕ × ℕ). nat_le since close.0 && nat_lt kept.acknowledged close.0) kept.closes ((kept.opened, prev) ∷ [])
+      ∙ rw (lt-leb since kept.opened early) (append-nil (filter (λ (close : ℕ × ℕ). nat_le since close.0 && nat_lt kept.acknowledged close.0) kept.closes)));
+  since_is = holds.since_is;
+  buckets = holds.buckets;
+}
 
--- and are of its buckets
-pub all_of : (group : Group) (kept : Kept) (bucket : ℕ) → Keeps group kept → IsBucketOf group bucket → All (λ buffer. node.IsBucketOf buffer bucket) group.buffers.items
-all_of group kept bucket keeps is = λ k d within.
-    All-from_recursion (λ buffer. (b : ℕ) → IsBucketOf group b → node.IsBucketOf buffer b) group.buffers.items keeps.buckets k d within bucket is
+-- the closes behind an epoch of those behind a lower one
+closes_behind : (since a t : ℕ) (cs : List (ℕ × ℕ)) → a ≤ t →
+    filter (λ (close : ℕ × ℕ). nat_lt t close.0) (filter (λ (close : ℕ × ℕ). nat_le since close.0 && nat_lt a close.0) cs) ≡ filter (λ (close : ℕ × ℕ). nat_le since close.0 && nat_lt t close.0) cs
+closes_behind since a t [] below = refl
+closes_behind since a t (c ∷ cs) below = go (cases_lt c.0 since) (cases_lt t c.0) (cases_lt a c.0) (closes_behind since a t cs below)
+  where
+    go : (c.0 < since) ⊎ (since ≤ c.0) → (t < c.0) ⊎ (c.0 ≤ t) → (a < c.0) ⊎ (c.0 ≤ a) →
+        filter (λ (close : ℕ × ℕ). nat_lt t close.0) (filter (λ (close : ℕ × ℕ). nat_le since close.0 && nat_lt a close.0) cs) ≡ filter (λ (close : ℕ × ℕ). nat_le since close.0 && nat_lt t close.0) cs →
+        filter (λ (close : ℕ × ℕ). nat_lt t close.0) (filter (λ (close : ℕ × ℕ). nat_le since close.0 && nat_lt a close.0) (c ∷ cs)) ≡ filter (λ (close : ℕ × ℕ). nat_le since close.0 && nat_lt t close.0) (c ∷ cs)
+    go (inl early) _ _ rest = rw (lt-leb since c.0 early) rest
+    go (inr from) (inl above) _ rest = rw (le-leb since c.0 from, lt-ltb a c.0 (omega arith), lt-ltb t c.0 above, rest) refl
+    go (inr from) (inr under) (inl above) rest = rw (le-leb since c.0 from, lt-ltb a c.0 above, le-ltb t c.0 under) rest
+    go (inr from) (inr under) (inr old) rest = rw (le-leb since c.0 from, le-ltb a c.0 old, le-ltb t c.0 under) rest
+
+-- the closed epochs that a node holds rise
+pub closes_rise : (buffer : BucketBuffer) (since : Option ℕ) (kept : Kept) → HoldsNode (Some buffer) since kept → IsOrdered kept → Rising kept.opened (map (λ close. close.0) (node.closes_kept buffer))
+closes_rise buffer None kept holds order = absurd holds
+closes_rise buffer (Some since) kept holds order = subst (λ (cs : List (ℕ × ℕ)). Rising kept.opened (map (λ close. close.0) cs)) (sym holds.closes)
+    (rising_closes (λ (close : ℕ × ℕ). nat_le since close.0 && nat_lt kept.acknowledged close.0) kept.opened kept.closes order.closes)
+
+-- more is acknowledged
+pub holds_release : (since : ℕ) (old new : BucketBuffer) (through : ℕ) (kept : Kept) → HoldsFrom since old kept → kept.acknowledged ≤ through →
+    ((e b : ℕ) → node.changes_kept new e b ≡ (if nat_le e through then [] else node.changes_kept old e b)) → node.closes_kept new ≡ filter (λ (close : ℕ × ℕ). nat_lt through close.0) (node.closes_kept old) →
+    node.since_of new ≡ node.since_of old → ((b : ℕ) → node.IsBucketOf old b → node.IsBucketOf new b) → HoldsFrom since new (with_acknowledged through kept)
+holds_release since old new through kept holds below forgotten closed stays buckets = record {
+  changes = λ e b. forgotten e b ∙ go e b (cases_lt through e);
+  closes = closed ∙ ap (filter (λ (close : ℕ × ℕ). nat_lt through close.0)) holds.closes ∙ closes_behind since kept.acknowledged through kept.closes below;
+  since_is = stays ∙ holds.since_is;
+  buckets = λ b low high. buckets b (holds.buckets b low high);
+}
+  where
+    go : (e b : ℕ) → (through < e) ⊎ (e ≤ through) → (if nat_le e through then [] else node.changes_kept old e b) ≡ (if nat_le since e && nat_lt through e then kept.changes e b else [])
+    go e b (inl above) = rw (lt-leb e through above, lt-ltb through e above) (holds.changes e b ∙ rw (lt-ltb kept.acknowledged e (omega arith)) refl)
+    go e b (inr under) = rw (le-leb e through under, and_right (nat_le since e) (nat_lt through e) (le-ltb through e under)) refl
+
+-- the same, of a node that may be down
+pub node_released : (old new : BucketBuffer) (since : Option ℕ) (through : ℕ) (kept : Kept) → HoldsNode (Some old) since kept → kept.acknowledged ≤ through →
+    ((e b : ℕ) → node.changes_kept new e b ≡ (if nat_le e through then [] else node.changes_kept old e b)) → node.closes_kept new ≡ filter (λ (close : ℕ × ℕ). nat_lt through close.0) (node.closes_kept old) →
+    node.since_of new ≡ node.since_of old → ((b : ℕ) → node.IsBucketOf old b → node.IsBucketOf new b) → HoldsNode (Some new) since (with_acknowledged through kept)
+node_released old new None through kept holds below forgotten closed stays buckets = absurd holds
+node_released old new (Some since) through kept holds below forgotten closed stays buckets = holds_release since old new through kept holds below forgotten closed stays buckets
+
+pub node_with_part : (old new : BucketBuffer) (since : Option ℕ) (bucket : ℕ) (change : Change) (kept : Kept) → HoldsNode (Some old) since kept → node.since_of old ≤ kept.opened → kept.acknowledged < kept.opened →
+    ((e b : ℕ) → node.changes_kept new e b ≡ node.with_change kept.opened bucket change (node.changes_kept old) e b) → node.closes_kept new ≡ node.closes_kept old →
+    node.since_of new ≡ node.since_of old → ((b : ℕ) → node.IsBucketOf old b → node.IsBucketOf new b) → HoldsNode (Some new) since (with_part bucket change kept)
+node_with_part old new None bucket change kept holds from above added closes same buckets = absurd holds
+node_with_part old new (Some since) bucket change kept holds from above added closes same buckets = holds_part since old new bucket change kept holds (omega (arith, holds.since_is)) above added closes same buckets
+
+pub node_skips_part : (buffer : BucketBuffer) (since : Option ℕ) (bucket : ℕ) (change : Change) (kept : Kept) → HoldsNode (Some buffer) since kept → kept.opened < node.since_of buffer → HoldsNode (Some buffer) since (with_part bucket change kept)
+node_skips_part buffer None bucket change kept holds early = absurd holds
+node_skips_part buffer (Some since) bucket change kept holds early = skips_part since buffer bucket change kept holds (omega (arith, holds.since_is))
+
+pub node_closed : (old new : BucketBuffer) (since : Option ℕ) (prev next : ℕ) (kept : Kept) → HoldsNode (Some old) since kept → node.since_of old ≤ kept.opened → kept.acknowledged < kept.opened →
+    ((e b : ℕ) → node.changes_kept new e b ≡ node.changes_kept old e b) → node.closes_kept new ≡ node.closes_kept old ++ (kept.opened, prev) ∷ [] →
+    node.since_of new ≡ node.since_of old → ((b : ℕ) → node.IsBucketOf old b → node.IsBucketOf new b) → HoldsNode (Some new) since (only_closed prev next kept)
+node_closed old new None prev next kept holds from above same closed stays buckets = absurd holds
+node_closed old new (Some since) prev next kept holds from above same closed stays buckets = holds_close since old new prev next kept holds (omega (arith, holds.since_is)) above same closed stays buckets
+
+pub node_skips_close : (buffer : BucketBuffer) (since : Option ℕ) (prev next : ℕ) (kept : Kept) → HoldsNode (Some buffer) since kept → kept.opened < node.since_of buffer → HoldsNode (Some buffer) since (only_closed prev next kept)
+node_skips_close buffer None prev next kept holds early = absurd holds
+node_skips_close buffer (Some since) prev next kept holds early = skips_close since buffer prev next kept holds (omega (arith, holds.since_is))
+
+-- a node that is down stays so
+pub down_stays : (since : Option ℕ) (kept next : Kept) → HoldsNode None since kept → HoldsNode None since next
+down_stays None kept next holds = tt
+down_stays (Some since) kept next holds = absurd holds
+
+-- no closed epoch is as late as one that was not closed
+none_from : (top since a : ℕ) (cs : List (ℕ × ℕ)) → Rising top (map (λ close. close.0) cs) → top ≤ since → filter (λ (close : ℕ × ℕ). nat_le since close.0 && nat_lt a close.0) cs ≡ []
+none_from top since a [] rising late = refl
+none_from top since a (c ∷ cs) rising late = rw (lt-leb since c.0 (omega (arith, rising.0))) (none_from top since a cs rising.2 late)
+
+-- an empty buffer, of a node that comes up
+pub fresh : (since : ℕ) (buffer : BucketBuffer) (kept : Kept) → Rising kept.opened (map (λ close. close.0) kept.closes) → kept.opened ≤ since → ((e b : ℕ) → since ≤ e → kept.changes e b ≡ []) →
+    ((e b : ℕ) → node.changes_kept buffer e b ≡ []) → node.closes_kept buffer ≡ [] → node.since_of buffer ≡ since →
+    ((b : ℕ) → kept.first ≤ b → b < kept.first + length kept.nodes → node.IsBucketOf buffer b) → HoldsFrom since buffer kept
+fresh since buffer kept rising late nothing empty closes is buckets = record {
+  changes = λ e b. empty e b ∙ go e b (cases_lt e since);
+  closes = closes ∙ sym (none_from kept.opened since kept.acknowledged kept.closes rising late);
+  since_is = is;
+  buckets = buckets;
+}
+  where
+    plain : (t : Bool) → ◌≡◌ {A = List Change} [] (if t then [] else [])
+    plain true = refl
+    plain false = refl
+
+    go : (e b : ℕ) → (e < since) ⊎ (since ≤ e) → ◌≡◌ {A = List Change} [] (if nat_le since e && nat_lt kept.acknowledged e then kept.changes e b else [])
+    go e b (inl early) = rw (lt-leb since e early) refl
+    go e b (inr from) = plain (nat_le since e && nat_lt kept.acknowledged e) ∙ ap (λ (cs : List Change). if nat_le since e && nat_lt kept.acknowledged e then cs else []) (sym (nothing e b from))

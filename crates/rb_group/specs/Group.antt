@@ -1,56 +1,100 @@
--- What a group stands for.
-use Rattle.std.specs.Prelude.{◌≡◌, ℕ, ◌+◌, ◌-◌, ◌<◌, ◌≤◌, ◌^◌, List, [], map, length}
-use Rattle.std.specs.List.{AllByRecursion}
+-- What a group's value stands for, and what its calls need and answer.
+use Rattle.std.specs.Prelude.{◌≡◌, ℕ, ◌+◌, ◌-◌, ◌/◌, ◌<◌, ◌≤◌, ◌^◌, true, [], map, filter, nat_lt, length, Option, Some, None, is_some}
+use Rattle.std.specs.List.{AllByRecursion, slice_get}
 use Rattle.rb_base.specs.declared.epoch.Epoch.{Epoch}
 use Rattle.rb_base.specs.declared.message.Sent.{Sent}
-use Rattle.rb_base.specs.declared.message.Message.TheVariants.{Part, Done}
+use Rattle.rb_base.specs.declared.message.Message.TheVariants.{Part}
 use Rattle.rb_base.specs.declared.change.Change.{Change}
-use Rattle.rb_journal_defs.specs.Body.{numbers_below}
-use Rattle.rb_message_defs.specs.Message.{home_node}
-use Rattle.rb_bucket.specs.Bucket as node
+use Rattle.rb_bucket.specs.Bucket.{Rising}
 use Rattle.rb_bucket.specs.declared.bucket.BucketBuffer.{BucketBuffer}
-use Rattle.rb_group.specs.Kept.{Kept, HoldsAll}
+use Rattle.rb_group.specs.Kept.{Kept, HoldsNode, since_in, owner_in, needed_in, covers_in, with_since, with_takeover, sent_at_takeover, successor_in, owned_in}
 use Rattle.rb_group.specs.declared.group.Group.{Group}
+use Rattle.rb_group.specs.declared.answers.FailOutcome.{FailOutcome}
+use Rattle.rb_group.specs.declared.answers.FailOutcome.TheVariants as outcomes
+use Rattle.rb_group.specs.declared.answers.GroupFault.{GroupFault}
+use Rattle.rb_group.specs.declared.answers.GroupFault.TheVariants as faults
 
--- the nodes' buffers, the lowest node's first
-abbrev pub buffers_of : Group → List BucketBuffer
-buffers_of group = group.buffers.items
+-- closed epochs rise below the open one, of which the acknowledged one is below; nothing was done in a later epoch
+pub record IsOrdered (kept : Kept) : Type 0 where
+  pub closes : Rising kept.opened (map (λ close. close.0) kept.closes)
+  pub acknowledged : kept.acknowledged < kept.opened
+  pub later : (epoch bucket : ℕ) → kept.opened < epoch → kept.changes epoch bucket ≡ []
 
--- so many buckets from this one on
-abbrev pub buckets_from : (first buckets : ℕ) → List ℕ
-buckets_from first buckets = map (λ number. first + number) (numbers_below buckets)
+-- a number is one of the group's nodes and buckets
+abbrev pub IsNumberOf : Kept → (number : ℕ) → Type 0
+IsNumberOf kept number = (kept.first ≤ number) × (number < kept.first + length kept.nodes)
 
--- the buckets of a group, ascending
-abbrev pub buckets_of : Group → List ℕ
-buckets_of group = buckets_from group.first (length group.owners.items)
-
--- a bucket is one of the group's
-abbrev pub IsBucketOf : Group → (bucket : ℕ) → Type 0
-IsBucketOf group bucket = (group.first ≤ bucket) × (bucket < group.first + length group.owners.items)
-
--- every node of a group has buffered this, and the owners are the home nodes
+-- a group stands for this: each node that is up has buffered its share
 pub record Keeps (group : Group) (kept : Kept) : Type 0 where
+  pub first : group.first ≡ kept.first
   pub opened : group.opened.0 ≡ kept.opened
-  pub nodes : AllByRecursion (λ buffer. HoldsAll buffer kept) (buffers_of group)
-  pub buckets : AllByRecursion (λ buffer. (bucket : ℕ) → IsBucketOf group bucket → node.IsBucketOf buffer bucket) (buffers_of group)
-  pub some : 1 ≤ length (buffers_of group)
-  pub fits : group.first + length group.owners.items ≤ 2 ^ 32
-  pub owners : group.owners.items ≡ map home_node (buckets_of group)
+  pub acknowledged : group.acknowledged.0 ≡ kept.acknowledged
+  pub count : length group.buffers.items ≡ length kept.nodes
+  pub nodes : (k : ℕ) (buffer : Option BucketBuffer) (since : Option ℕ) → slice_get group.buffers.items k ≡ Some buffer → slice_get kept.nodes k ≡ Some since → HoldsNode buffer since kept
+  pub owners : group.owners.items ≡ kept.owners
+  pub owner_count : length kept.owners ≡ length kept.nodes
+  pub owners_in : AllByRecursion (IsNumberOf kept) kept.owners
+  pub some : 1 ≤ length kept.nodes
+  pub fits : kept.first + length kept.nodes ≤ 2 ^ 32
+  pub order : IsOrdered kept
+  -- the closed epochs above the acknowledged one, oldest first
+  pub closed : map (λ (e : Epoch). e.0) group.closed.items ≡ filter (nat_lt kept.acknowledged) (map (λ close. close.0) kept.closes)
+  -- the buckets can be counted in 32 bits
+  pub countable : length group.owners.items < 2 ^ 32
 
--- a change of a bucket has room in the open epoch
-abbrev pub HasRoom : Group → (bucket : ℕ) → Type 0
-HasRoom group bucket = (kept : Kept) × Keeps group kept × (length (kept.changes kept.opened bucket) < 2 ^ 32 - 1)
+-- each bucket's owner covers
+abbrev pub AllCover : Kept → Type 0
+AllCover kept = (bucket : ℕ) → IsNumberOf kept bucket → covers_in kept (owner_in kept bucket) ≡ true
 
--- each bucket's changes in the open epoch can be counted in 32 bits
-abbrev pub CanClose : Group → Type 0
-CanClose group = (kept : Kept) × Keeps group kept × ((bucket : ℕ) → length (kept.changes kept.opened bucket) < 2 ^ 32)
+-- the changes of each bucket in each epoch can be counted in 32 bits
+abbrev pub AllFit : Kept → Type 0
+AllFit kept = (epoch bucket : ℕ) → length (kept.changes epoch bucket) < 2 ^ 32
 
--- what the commit of a change of a bucket sends
+-- what the commit of a change of a bucket needs
+abbrev pub CanCommit : Group → (bucket : ℕ) → Type 0
+CanCommit group bucket =
+    (kept : Kept) × Keeps group kept × IsNumberOf kept bucket × (covers_in kept (owner_in kept bucket) ≡ true) × (length (kept.changes kept.opened bucket) < 2 ^ 32 - 1)
+
+-- what it sends
 abbrev pub part_sent : Kept → (bucket : ℕ) → Change → Sent
-part_sent kept bucket change =
-    record { sender = home_node bucket; message = Part bucket (record { 0 = kept.opened }) (length (kept.changes kept.opened bucket)) change }
+part_sent kept bucket change = record { sender = owner_in kept bucket; message = Part bucket (record { 0 = kept.opened }) (length (kept.changes kept.opened bucket)) change }
 
--- what the close of the open epoch sends for a bucket
-abbrev pub done_sent : Kept → (prev : Epoch) → (bucket : ℕ) → Sent
-done_sent kept prev bucket =
-    record { sender = home_node bucket; message = Done bucket (record { 0 = kept.opened }) prev (length (kept.changes kept.opened bucket)) }
+-- what a close needs
+abbrev pub CanClose : Group → (next : ℕ) → Type 0
+CanClose group next = (kept : Kept) × Keeps group kept × AllCover kept × AllFit kept × (kept.opened < next)
+
+-- what a resend needs
+abbrev pub CanResend : Group → Type 0
+CanResend group = (kept : Kept) × Keeps group kept × AllCover kept × AllFit kept
+
+-- what the failure of a node needs
+abbrev pub CanFail : Group → (number : ℕ) → Type 0
+CanFail group number = (kept : Kept) × Keeps group kept × IsNumberOf kept number × AllFit kept
+
+-- what the restart of a node needs
+abbrev pub CanRestart : Group → (number : ℕ) → Type 0
+CanRestart group number = (kept : Kept) × Keeps group kept × IsNumberOf kept number × (kept.opened < 2 ^ 64 - 1)
+
+-- what an acknowledgement needs
+abbrev pub CanAcknowledge : Group → (through : ℕ) → Type 0
+CanAcknowledge group through = (kept : Kept) × Keeps group kept × (through < kept.opened)
+
+-- what a failure leaves: the next node that covers took over, or none does and the group is lost
+abbrev pub FailsTo : Kept → (number : ℕ) → FailOutcome → (new : Group) → Type 0
+FailsTo kept number (outcomes.Takeover count sent) new =
+    (successor : ℕ) × (successor_in kept number ≡ Some successor) × (count ≡ length (owned_in kept number)) × (sent ≡ sent_at_takeover number successor kept)
+    × Keeps new (with_takeover number successor kept)
+FailsTo kept number (outcomes.Lost group epoch) new =
+    (successor_in kept number ≡ None) × (group ≡ kept.first / length kept.nodes) × (epoch.0 ≡ needed_in kept) × Keeps new (with_since number None kept)
+
+-- why a node does not fail
+abbrev pub FailFault : Kept → (number : ℕ) → GroupFault → Type 0
+FailFault kept number (faults.NodeDown other) = (other ≡ number) × (since_in kept number ≡ None)
+FailFault kept number (faults.NodeUp other) = ⊥
+FailFault kept number faults.NoMemory = Unit {0}
+
+-- why a node does not start again
+abbrev pub RestartFault : Kept → (number : ℕ) → GroupFault → Type 0
+RestartFault kept number (faults.NodeDown other) = ⊥
+RestartFault kept number (faults.NodeUp other) = (other ≡ number) × (is_some (since_in kept number) ≡ true)
+RestartFault kept number faults.NoMemory = Unit {0}

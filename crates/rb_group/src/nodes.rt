@@ -1,48 +1,98 @@
-ghost use Rattle.std.specs.Prelude.{◌≡◌, ◌≤◌, ℕ, length, OnOk, IfOk};
-ghost use Rattle.std.specs.List.{All};
-ghost use Rattle.rb_bucket.specs.Bucket as node;
-ghost use Rattle.rb_group.specs.Kept.{Kept, HoldsAll, CanAdd, with_one, with_close};
+ghost use Rattle.std.specs.Prelude.{◌≡◌, ◌≤◌, ◌<◌, ℕ, Option, length, OnOk};
+ghost use Rattle.rb_group.specs.Kept.{Kept, HoldsNode, with_part, only_closed, with_acknowledged};
+ghost use Rattle.rb_group.specs.Group.{IsOrdered};
+ghost use Rattle.rb_group.specs.Nodes.{AllHold, CanAdd, CanAddOne, CanRelease, CanReleaseOne};
 
 use rb_base::{Change, Epoch, NoMemory};
 use rb_bucket::BucketBuffer;
 use std::alloc::Global;
 
-/// Adds a change of a bucket to each node's buffer, and answers its place there. Without memory some buffers may have it.
+/// Adds a change of a bucket to the buffer of each node that buffers the open epoch. Without memory some buffers may have it.
 pub fn add_to_all(
     alloc: Global,
-    buffers: &mut Vec<BucketBuffer>,
+    buffers: &mut Vec<Option<BucketBuffer>>,
     bucket: u32,
     epoch: Epoch,
     change: &Change,
-) -> Result<u32, NoMemory>
+) -> Result<(), NoMemory>
     requires room { CanAdd buffers.old.items epoch.0 bucket }
-    ensures kept { OnOk result ((kept : Kept) → All (λ buffer. HoldsAll buffer kept) buffers.old.items →
-        All (λ buffer. HoldsAll buffer (with_one epoch.0 bucket change.now kept)) buffers.new.items) }
-    ensures place { IfOk result (λ place. (kept : Kept) → All (λ buffer. HoldsAll buffer kept) buffers.old.items → 1 ≤ length buffers.old.items → place ≡ length (kept.changes epoch.0 bucket)) }
-    ensures buckets { OnOk result ((b : ℕ) → All (λ buffer. node.IsBucketOf buffer b) buffers.old.items → All (λ buffer. node.IsBucketOf buffer b) buffers.new.items) }
+    ensures kept { OnOk result ((kept : Kept) → AllHold buffers.old.items kept → kept.opened ≡ epoch.0 → IsOrdered kept → AllHold buffers.new.items (with_part bucket change.now kept)) }
     ensures count { OnOk result (length buffers.new.items ≡ length buffers.old.items) }
 {
-    let mut place = 0;
     for index in 0..buffers.len() {
-        let copy = change.copy(alloc)?;
-        place = buffers[index].add(bucket, epoch, copy)?;
+        add_to_one(alloc, &mut buffers[index], bucket, epoch, change)?;
     }
-    Ok(place)
+    Ok(())
 }
 
-/// Tells each node's buffer that an epoch was closed. Without memory some buffers may know it.
+// Adds a change to a node's buffer, where it is up and buffers the open epoch.
+fn add_to_one(
+    alloc: Global,
+    buffer: &mut Option<BucketBuffer>,
+    bucket: u32,
+    epoch: Epoch,
+    change: &Change,
+) -> Result<(), NoMemory>
+    requires room { CanAddOne buffer.old epoch.0 bucket }
+    ensures { OnOk result ((kept : Kept) → (since : Option ℕ) → HoldsNode buffer.old since kept → kept.opened ≡ epoch.0 → IsOrdered kept → HoldsNode buffer.new since (with_part bucket change.now kept)) }
+{
+    if let Some(held) = buffer {
+        if held.since().0 <= epoch.0 {
+            let copy = change.copy(alloc)?;
+            held.add(bucket, epoch, copy)?;
+        }
+    }
+    Ok(())
+}
+
+/// Tells the buffer of each node that buffers the open epoch that it was closed. Without memory some buffers may know it.
 pub fn close_in_all(
-    buffers: &mut Vec<BucketBuffer>,
+    buffers: &mut Vec<Option<BucketBuffer>>,
     epoch: Epoch,
     prev: Epoch,
 ) -> Result<(), NoMemory>
-    ensures kept { OnOk result ((kept : Kept) → All (λ buffer. HoldsAll buffer kept) buffers.old.items →
-        All (λ buffer. HoldsAll buffer (with_close epoch.0 prev.0 kept)) buffers.new.items) }
-    ensures buckets { OnOk result ((b : ℕ) → All (λ buffer. node.IsBucketOf buffer b) buffers.old.items → All (λ buffer. node.IsBucketOf buffer b) buffers.new.items) }
+    ensures kept { OnOk result ((kept : Kept) → (next : ℕ) → AllHold buffers.old.items kept → kept.opened ≡ epoch.0 → IsOrdered kept → AllHold buffers.new.items (only_closed prev.0 next kept)) }
     ensures count { OnOk result (length buffers.new.items ≡ length buffers.old.items) }
 {
     for index in 0..buffers.len() {
-        buffers[index].close(epoch, prev)?;
+        close_in_one(&mut buffers[index], epoch, prev)?;
     }
     Ok(())
+}
+
+// Tells a node's buffer that the open epoch was closed, where it is up and buffers it.
+fn close_in_one(
+    buffer: &mut Option<BucketBuffer>,
+    epoch: Epoch,
+    prev: Epoch,
+) -> Result<(), NoMemory>
+    ensures { OnOk result ((kept : Kept) → (since : Option ℕ) → (next : ℕ) → HoldsNode buffer.old since kept → kept.opened ≡ epoch.0 → IsOrdered kept → HoldsNode buffer.new since (only_closed prev.0 next kept)) }
+{
+    if let Some(held) = buffer {
+        if held.since().0 <= epoch.0 {
+            held.close(epoch, prev)?;
+        }
+    }
+    Ok(())
+}
+
+/// Forgets in each node's buffer what is acknowledged now.
+pub fn release_in_all(buffers: &mut Vec<Option<BucketBuffer>>, through: Epoch)
+    requires ready { CanRelease buffers.old.items }
+    ensures kept { (kept : Kept) → AllHold buffers.old.items kept → kept.acknowledged ≤ through.0 → AllHold buffers.new.items (with_acknowledged through.0 kept) }
+    ensures count { length buffers.new.items ≡ length buffers.old.items }
+{
+    for index in 0..buffers.len() {
+        release_in_one(&mut buffers[index], through);
+    }
+}
+
+// Forgets in a node's buffer what is acknowledged now.
+fn release_in_one(buffer: &mut Option<BucketBuffer>, through: Epoch)
+    requires ready { CanReleaseOne buffer.old }
+    ensures { (kept : Kept) → (since : Option ℕ) → HoldsNode buffer.old since kept → kept.acknowledged ≤ through.0 → HoldsNode buffer.new since (with_acknowledged through.0 kept) }
+{
+    if let Some(held) = buffer {
+        held.release(through);
+    }
 }

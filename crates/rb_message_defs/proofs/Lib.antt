@@ -1,3 +1,4 @@
 pub mod Messages
 pub mod Chained
 pub mod Assembly
+pub mod Again

@@ -14,7 +14,7 @@ use Rattle.rb_journal_defs.specs.Body.{Shape, changes_in, in_bucket, part_of, nu
 use Rattle.rb_journal_defs.specs.Order.{InOrder}
 use Rattle.rb_journal_defs.proofs.Bodies.{changes_in_closed}
 use Rattle.rb_journal_defs.proofs.Order.{eq_or_ne, changes_here, changes_elsewhere, closed_below}
-use Rattle.rb_message_defs.specs.Message.{bucket_in, done_message, IsMessageOf, part_message, parts_sent, dones_sent}
+use Rattle.rb_message_defs.specs.Message.{bucket_in, IsMessageOf, part_message, parts_sent}
 
 pub get_left : {X : Type 0} → (xs ys : List X) (k : ℕ) (x : X) → slice_get xs k ≡ Some x → slice_get (xs ++ ys) k ≡ Some x
 get_left [] ys k x same = absurd (let g : None ≡ Some x = same in cc)
@@ -109,7 +109,7 @@ place_in_part shape earlier later c =
 abbrev pub IsSentOf : Shape → Journal → Message → Type 0
 IsSentOf shape journal m = (bucket_in m < shape.buckets) × IsMessageOf shape journal m
 
-bucket_within : (table key buckets : ℕ) → 0 < buckets → bucket_number table key buckets < buckets
+pub bucket_within : (table key buckets : ℕ) → 0 < buckets → bucket_number table key buckets < buckets
 bucket_within table key buckets some = mod-lt (key % buckets + table) some
 
 -- what a commit sends are messages of the journal behind it
@@ -128,17 +128,10 @@ pub parts_are_messages : (shape : Shape) (o t : ℕ) (cs : List Change) (j : Jou
 parts_are_messages shape o t cs j some = parts_from shape o t (changes_in shape.site o j) cs cs j some refl
 
 -- each number below another
-all_below : {P : ℕ → Type 0} → (n : ℕ) → ((k : ℕ) → k < n → P k) → AllByRecursion P (numbers_below n)
+pub all_below : {P : ℕ → Type 0} → (n : ℕ) → ((k : ℕ) → k < n → P k) → AllByRecursion P (numbers_below n)
 all_below zero f = tt
 all_below {P} (suc n) f = all_joined P (numbers_below n) (n ∷ []) (all_below n (λ k l. f k (omega arith))) (f n (omega arith), tt)
 
-all_mapped : {X Y : Type 0} → (P : Y → Type 0) (f : X → Y) (xs : List X) → AllByRecursion (λ x. P (f x)) xs → AllByRecursion P (map f xs)
+pub all_mapped : {X Y : Type 0} → (P : Y → Type 0) (f : X → Y) (xs : List X) → AllByRecursion (λ x. P (f x)) xs → AllByRecursion P (map f xs)
 all_mapped P f [] all = tt
 all_mapped P f (x ∷ xs) all = (all.0, all_mapped P f xs all.1)
-
--- what a close sends are messages of the journal behind it
-pub dones_are_messages : (shape : Shape) (o : ℕ) (j : Journal) → AllByRecursion (IsSentOf shape (Closed o ∷ j)) (dones_sent shape o j)
-unfolding dones_sent
-dones_are_messages shape o j =
-    all_mapped (IsSentOf shape (Closed o ∷ j)) (λ bucket. done_message shape o bucket j) (numbers_below shape.buckets)
-    (all_below shape.buckets (λ b l. (l, (inl refl, sym (previous_stays o o j (omega arith)), ap length (sym (part_of_close shape o b o j))))))

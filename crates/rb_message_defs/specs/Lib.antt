@@ -1,3 +1,4 @@
 pub mod Message
 pub mod Received
 pub mod Taken
+pub mod Nodes

@@ -1,5 +1,5 @@
--- The messages of a journal, and what data nodes send at a commit and at a close. The buckets and their messages are this
--- project's own.
+-- The messages of a journal, what data nodes send at a commit, and the end of a bucket in an epoch. The buckets and their
+-- messages are this project's own.
 use Rattle.std.specs.Prelude.{◌≡◌, ℕ, List, ◌++◌, length, map, take, Some}
 use Rattle.std.specs.List.{enumerate_from, slice_get}
 use Rattle.rb_base.specs.Bucket.{bucket_number}
@@ -9,7 +9,7 @@ use Rattle.rb_base.specs.declared.message.Message.TheVariants.{Part, Done}
 use Rattle.rb_base.specs.declared.message.Sent.{Sent}
 use Rattle.rb_journal_defs.specs.Journal.{Journal, previous_closed}
 use Rattle.rb_journal_defs.specs.Order.{IsClosed}
-use Rattle.rb_journal_defs.specs.Body.{Shape, in_bucket, part_of, numbers_below}
+use Rattle.rb_journal_defs.specs.Body.{Shape, in_bucket, part_of}
 
 -- the bucket of a message
 abbrev pub bucket_in : Message → ℕ
@@ -42,10 +42,6 @@ part_message buckets epoch earlier change =
 unfoldable pub parts_sent : (buckets epoch : ℕ) → (earlier : List Change) → List Change → List Message
 parts_sent buckets epoch earlier changes =
     map (λ numbered. part_message buckets epoch (earlier ++ take numbered.0 changes) numbered.1) (enumerate_from 0 changes)
-
--- what the close of an epoch sends: the Done of each bucket, bucket 0 first
-unfoldable pub dones_sent : Shape → (epoch : ℕ) → Journal → List Message
-dones_sent shape epoch journal = map (λ bucket. done_message shape epoch bucket journal) (numbers_below shape.buckets)
 
 -- the home node of a bucket has its number
 abbrev pub home_node : (bucket : ℕ) → ℕ

@@ -1,6 +1,6 @@
 -- How a run's events bound what it draws and opens, and the changes of its journal.
 use Rattle.std.proofs.Common.{◌≡◌, ℕ, ◌+◌, ◌*◌, ◌≤◌, Bool, true, false, List, [], ◌∷◌, length, fold, arith}
-use Rattle.std.specs.Prelude.{sum_by, Option, Some, None}
+use Rattle.std.specs.Prelude.{sum_by, if◌then◌else◌, Option, Some, None}
 use Rattle.std.specs.List.{slice_get}
 use Rattle.std.specs.Option.{option_map_or}
 use Rattle.std.proofs.lemmas.List.{length-map}
@@ -19,7 +19,8 @@ use Rattle.rb_journal_defs.specs.Body.{Shape}
 use Rattle.rb_journal_defs.specs.Clock.{epoch_after}
 use Rattle.rb_journal_defs.specs.Transaction.{Refusal, refusal_of, change_over, changes_made}
 use Rattle.rb_message_defs.specs.Received.{answer_to}
-use Rattle.rb_play_defs.specs.Step.{Progress, unchanged, refused, rows_of, tx_changes, committed, commit_outcome, tx_step, closed, close_step, fed_by, delivered_message, answer_outcome, deliver_step, undelivered, after_delivery, all_delivered, delivery_of_all, deliver_all_step, injection_of, inject_step}
+use Rattle.rb_play_defs.specs.Step.{Progress, unchanged, refused, rows_of, tx_changes, committed, commit_outcome, tx_step, closed, close_step, fed_by, delivered_message, answer_outcome, deliver_step, undelivered, after_delivery, all_delivered, delivery_of_all, deliver_all_step, injection_of, inject_step, Stepped, needed_of, takeover_step, loss_step, fail_step, restart_step, resend_step, unless_lost, site_step}
+use Rattle.rb_message_defs.specs.Nodes.{node_at, successor_of, with_restart}
 use Rattle.rb_play_defs.specs.Play.{log_step, event_step, Played, played_on}
 
 -- how many changes a journal has at its site
@@ -118,15 +119,48 @@ counted_log shape run =
 as_one : (shape : Shape) (run next : Progress) → Counted shape run next 0 0 → Counted shape run next 1 0
 as_one shape run next none = counted_then shape run next next 0 1 0 0 none (counted_self shape next 1 0)
 
+-- a node that fails, or starts again, and a resend
+counted_fail : (shape : Shape) (node : ℕ) (run : Progress) → Counted shape run (fail_step shape node run).run 0 0
+unfolding fail_step
+counted_fail shape node run = go (node_at run.nodes node).up (successor_of run.nodes (needed_of shape run) node)
+  where
+    go : (up : Bool) (successor : Option ℕ) → Counted shape run (if up then option_map_or (λ other. takeover_step shape node other run) successor (loss_step shape node run) else unchanged run (outcomes.NodeDown node)).run 0 0
+    go true None = record { drawn = omega arith; opened = omega arith; changes_are = omega arith }
+    go true (Some other) = record { drawn = omega arith; opened = omega arith; changes_are = omega arith }
+    go false successor = counted_self shape run 0 0
+
+counted_restart : (shape : Shape) (node : ℕ) (run : Progress) → Counted shape run (restart_step node run).run 0 0
+unfolding restart_step
+counted_restart shape node run = go (node_at run.nodes node).up
+  where
+    go : (up : Bool) → Counted shape run (if up then unchanged run (outcomes.NodeUp node) else record { run = record run { nodes = with_restart node run.opened run.nodes }; outcome = outcomes.Restarted (record { 0 = run.opened + 1 }) }).run 0 0
+    go true = counted_self shape run 0 0
+    go false = record { drawn = omega arith; opened = omega arith; changes_are = omega arith }
+
+counted_resend : (shape : Shape) (run : Progress) → Counted shape run (resend_step shape run).run 0 0
+unfolding resend_step
+counted_resend shape run = record { drawn = omega arith; opened = omega arith; changes_are = omega arith }
+
+-- an event that a lost site refuses
+counted_unless : (shape : Shape) (run : Progress) (step : Stepped) (changes : ℕ) → Counted shape run step.run 1 changes → Counted shape run (unless_lost run step).run 1 changes
+counted_unless shape run step changes counts = go run.lost
+  where
+    go : (lost : Option (ℕ × ℕ)) → Counted shape run (option_map_or (λ loss. unchanged run (outcomes.SiteLost loss.0 (record { 0 = loss.1 }))) lost step).run 1 changes
+    go None = counts
+    go (Some loss) = counted_self shape run 1 changes
+
 -- an event of a script
 counted_event : (shape : Shape) (run : Progress) (event : Event) → Counted shape run (event_step shape run event).run 1 (changes_in_event event)
-unfolding event_step close_step deliver_all_step inject_step
-counted_event shape run (events.Tx site operations) = counted_tx shape operations run
-counted_event shape run (events.Close site gci) = counted_close shape gci run
+unfolding event_step site_step close_step deliver_all_step inject_step
+counted_event shape run (events.Tx site operations) = counted_unless shape run (tx_step shape operations run) (length operations) (counted_tx shape operations run)
+counted_event shape run (events.Close site gci) = counted_unless shape run (close_step shape gci run) 0 (counted_close shape gci run)
 counted_event shape run (events.Deliver site place) = as_one shape run (deliver_step shape place run).run (counted_deliver shape place run)
 counted_event shape run (events.DeliverAll site) = as_one shape run (delivery_of_all shape run).run (counted_delivery shape run)
 counted_event shape run (events.Inject site) = as_one shape run (injection_of shape run).run (counted_injection shape run)
 counted_event shape run (events.Log site) = as_one shape run (log_step shape run).run (counted_log shape run)
+counted_event shape run (events.Fail site node) = counted_unless shape run (fail_step shape node run) 0 (as_one shape run (fail_step shape node run).run (counted_fail shape node run))
+counted_event shape run (events.Restart site node) = counted_unless shape run (restart_step node run) 0 (as_one shape run (restart_step node run).run (counted_restart shape node run))
+counted_event shape run (events.Resend site) = counted_unless shape run (resend_step shape run) 0 (as_one shape run (resend_step shape run).run (counted_resend shape run))
 counted_event shape run event = counted_self shape run 1 0
 
 -- these events played: as many events, with their changes

@@ -1,6 +1,6 @@
 -- How a run grows: what holds of a site goes on to hold, and its log only gets longer.
-use Rattle.std.proofs.Common.{◌≡◌, ℕ, zero, suc, ◌+◌, ◌<◌, ◌≤◌, Bool, List, [], ◌∷◌, ◌++◌, length, take, drop, fold, refl, sym, ap, subst, ◌∙◌, arith, append_assoc}
-use Rattle.std.specs.Prelude.{Option, Some, None}
+use Rattle.std.proofs.Common.{◌≡◌, ℕ, zero, suc, ◌+◌, ◌*◌, ◌<◌, ◌≤◌, Bool, true, false, List, [], ◌∷◌, ◌++◌, length, take, drop, fold, refl, sym, ap, subst, ◌∙◌, arith, append_assoc}
+use Rattle.std.specs.Prelude.{if◌then◌else◌, Option, Some, None}
 use Rattle.std.specs.List.{slice_get}
 use Rattle.std.specs.Option.{option_map_or}
 use Rattle.std.proofs.lemmas.List.{append-nil, take-append-le, take-append-drop, length-map}
@@ -16,12 +16,14 @@ use Rattle.rb_journal_defs.specs.Body.{Shape, body_of, completed_bodies}
 use Rattle.rb_journal_defs.specs.Transaction.{Refusal, refusal_of}
 use Rattle.rb_journal_defs.proofs.Bodies.{if_logged, completed_client, completed_closed}
 use Rattle.rb_message_defs.specs.Received.{answer_to}
-use Rattle.rb_play_defs.specs.Step.{Progress, unchanged, refused, rows_of, tx_changes, committed, commit_outcome, tx_step, closed, close_step, fed_by, delivered_message, answer_outcome, deliver_step, undelivered, after_delivery, all_delivered, delivery_of_all, deliver_all_step, takeable, injected, injection_of, inject_step, site_step, written_bodies, with_taken}
+use Rattle.rb_play_defs.specs.Step.{Progress, unchanged, refused, rows_of, tx_changes, committed, commit_outcome, tx_step, closed, close_step, fed_by, delivered_message, answer_outcome, deliver_step, undelivered, after_delivery, all_delivered, delivery_of_all, deliver_all_step, Stepped, needed_of, takeover_step, loss_step, fail_step, restart_step, resend_step, unless_lost, takeable, injected, injection_of, inject_step, site_step, written_bodies, with_taken}
 use Rattle.rb_play_defs.specs.Sound.{IsSound}
 use Rattle.rb_play_defs.specs.declared.event.SiteEvent.{SiteEvent}
 use Rattle.rb_play_defs.specs.declared.event.SiteEvent.TheVariants as happenings
-use Rattle.rb_play_defs.specs.Play.{log_step, event_step, Played, played_on, not_played, play_of}
-use Rattle.rb_play_defs.proofs.Sounds.{closed_all_below, sound_beginning, sound_commit, sound_close}
+use Rattle.rb_base.specs.declared.script.Setup.{Setup}
+use Rattle.rb_message_defs.specs.Nodes.{node_at, successor_of, with_restart}
+use Rattle.rb_play_defs.specs.Play.{shape_of, log_step, event_step, Played, played_on, not_played, play_of}
+use Rattle.rb_play_defs.proofs.Sounds.{closed_all_below, sound_beginning, sound_commit, sound_close, sound_fail, sound_restart, sound_resend}
 use Rattle.rb_play_defs.proofs.Takes.{sound_delivered, sound_taken, takeable_rest, injected_more, injected_end, written_is, written_more}
 
 -- these begin with those
@@ -114,14 +116,47 @@ pub goes_injection : (shape : Shape) (run : Progress) → IsSound shape run → 
 unfolding injection_of
 goes_injection shape run sound = goes_taken shape run (takeable shape run) sound refl
 
+-- a node that fails, or starts again, and a resend
+goes_fail : (shape : Shape) (node : ℕ) (run : Progress) → IsSound shape run → Goes shape run (fail_step shape node run).run
+unfolding fail_step
+goes_fail shape node run sound = record { sound = sound_fail shape node run sound; grows = go (node_at run.nodes node).up (successor_of run.nodes (needed_of shape run) node) }
+  where
+    go : (up : Bool) (successor : Option ℕ) → Begins (written_bodies shape run) (written_bodies shape (if up then option_map_or (λ other. takeover_step shape node other run) successor (loss_step shape node run) else unchanged run (outcomes.NodeDown node)).run)
+    go true None = begins_self (written_bodies shape run)
+    go true (Some other) = begins_self (written_bodies shape run)
+    go false successor = begins_self (written_bodies shape run)
+
+goes_restart : (shape : Shape) (node : ℕ) (run : Progress) → IsSound shape run → Goes shape run (restart_step node run).run
+unfolding restart_step
+goes_restart shape node run sound = record { sound = sound_restart shape node run sound; grows = go (node_at run.nodes node).up }
+  where
+    go : (up : Bool) → Begins (written_bodies shape run) (written_bodies shape (if up then unchanged run (outcomes.NodeUp node) else record { run = record run { nodes = with_restart node run.opened run.nodes }; outcome = outcomes.Restarted (record { 0 = run.opened + 1 }) }).run)
+    go true = begins_self (written_bodies shape run)
+    go false = begins_self (written_bodies shape run)
+
+goes_resend : (shape : Shape) (run : Progress) → IsSound shape run → Goes shape run (resend_step shape run).run
+unfolding resend_step
+goes_resend shape run sound = record { sound = sound_resend shape run sound; grows = begins_self (written_bodies shape run) }
+
+-- an event that a lost site refuses
+goes_unless : (shape : Shape) (run : Progress) (step : Stepped) → IsSound shape run → Goes shape run step.run → Goes shape run (unless_lost run step).run
+goes_unless shape run step sound next = go run.lost
+  where
+    go : (lost : Option (ℕ × ℕ)) → Goes shape run (option_map_or (λ loss. unchanged run (outcomes.SiteLost loss.0 (record { 0 = loss.1 }))) lost step).run
+    go None = next
+    go (Some loss) = goes_self shape run sound
+
 -- an event at a site
 pub goes_site : (shape : Shape) (run : Progress) (event : SiteEvent) → IsSound shape run → Goes shape run (site_step shape run event).run
 unfolding site_step close_step deliver_all_step inject_step
-goes_site shape run (happenings.Tx operations) sound = goes_tx shape operations run sound
-goes_site shape run (happenings.Close gci) sound = goes_close shape gci run sound
+goes_site shape run (happenings.Tx operations) sound = goes_unless shape run (tx_step shape operations run) sound (goes_tx shape operations run sound)
+goes_site shape run (happenings.Close gci) sound = goes_unless shape run (close_step shape gci run) sound (goes_close shape gci run sound)
 goes_site shape run (happenings.Deliver place) sound = goes_deliver shape place run sound
 goes_site shape run happenings.DeliverAll sound = goes_delivery shape run sound
 goes_site shape run happenings.Inject sound = goes_injection shape run sound
+goes_site shape run (happenings.Fail node) sound = goes_unless shape run (fail_step shape node run) sound (goes_fail shape node run sound)
+goes_site shape run (happenings.Restart node) sound = goes_unless shape run (restart_step node run) sound (goes_restart shape node run sound)
+goes_site shape run happenings.Resend sound = goes_unless shape run (resend_step shape run) sound (goes_resend shape run sound)
 
 goes_log : (shape : Shape) (run : Progress) → IsSound shape run → Goes shape run (log_step shape run).run
 unfolding log_step
@@ -131,16 +166,16 @@ goes_log shape run sound =
 
 -- an event of a script
 pub goes : (shape : Shape) (run : Progress) (event : Event) → IsSound shape run → Goes shape run (event_step shape run event).run
-unfolding event_step close_step deliver_all_step inject_step
-goes shape run (events.Tx site operations) sound = goes_tx shape operations run sound
-goes shape run (events.Close site gci) sound = goes_close shape gci run sound
+unfolding event_step site_step close_step deliver_all_step inject_step
+goes shape run (events.Tx site operations) sound = goes_unless shape run (tx_step shape operations run) sound (goes_tx shape operations run sound)
+goes shape run (events.Close site gci) sound = goes_unless shape run (close_step shape gci run) sound (goes_close shape gci run sound)
 goes shape run (events.Deliver site place) sound = goes_deliver shape place run sound
 goes shape run (events.DeliverAll site) sound = goes_delivery shape run sound
 goes shape run (events.Inject site) sound = goes_injection shape run sound
 goes shape run (events.Log site) sound = goes_log shape run sound
-goes shape run (events.Fail site node) sound = goes_self shape run sound
-goes shape run (events.Restart site node) sound = goes_self shape run sound
-goes shape run (events.Resend site) sound = goes_self shape run sound
+goes shape run (events.Fail site node) sound = goes_unless shape run (fail_step shape node run) sound (goes_fail shape node run sound)
+goes shape run (events.Restart site node) sound = goes_unless shape run (restart_step node run) sound (goes_restart shape node run sound)
+goes shape run (events.Resend site) sound = goes_unless shape run (resend_step shape run) sound (goes_resend shape run sound)
 goes shape run (events.Injector site) sound = goes_self shape run sound
 goes shape run (events.Piece site file position count) sound = goes_self shape run sound
 goes shape run (events.Pull site) sound = goes_self shape run sound
@@ -158,11 +193,11 @@ goes_on shape played (event ∷ later) sound =
     goes_then shape played.run (played_on shape played event).run (fold (played_on shape) played (event ∷ later)).run one (goes_on shape (played_on shape played event) later one.sound)
 
 -- the events behind a front of them
-pub played_rest : (shape : Shape) (lined : List LinedEvent) (i : ℕ) → fold (played_on shape) (play_of shape (take i lined)) (drop i lined) ≡ play_of shape lined
+pub played_rest : (setup : Setup) (lined : List LinedEvent) (i : ℕ) → fold (played_on (shape_of setup)) (play_of setup (take i lined)) (drop i lined) ≡ play_of setup lined
 unfolding play_of
-played_rest shape lined i = sym (fold-append (played_on shape) not_played (take i lined) (drop i lined)) ∙ ap (fold (played_on shape) not_played) (take-append-drop i lined)
+played_rest setup lined i = sym (fold-append (played_on (shape_of setup)) (not_played setup) (take i lined) (drop i lined)) ∙ ap (fold (played_on (shape_of setup)) (not_played setup)) (take-append-drop i lined)
 
 -- a front of a run is sound
-pub sound_front : (shape : Shape) (lined : List LinedEvent) (i : ℕ) → 0 < shape.buckets → IsSound shape (play_of shape (take i lined)).run
+pub sound_front : (setup : Setup) (lined : List LinedEvent) (i : ℕ) → 0 < setup.a.groups * setup.a.replicas → 0 < setup.a.replicas → IsSound (shape_of setup) (play_of setup (take i lined)).run
 unfolding play_of
-sound_front shape lined i some = (goes_on shape not_played (take i lined) (sound_beginning shape some)).sound
+sound_front setup lined i some each = (goes_on (shape_of setup) (not_played setup) (take i lined) (sound_beginning (shape_of setup) setup.a.groups setup.a.replicas refl some each)).sound

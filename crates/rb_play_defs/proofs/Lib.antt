@@ -4,3 +4,4 @@ pub mod Grows
 pub mod Fits
 pub mod Counts
 pub mod Tables
+pub mod Covering

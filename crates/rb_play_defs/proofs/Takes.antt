@@ -27,7 +27,7 @@ of_sent P (y ∷ xs) (suc k) x all same = of_sent P xs k x all.1 same
 
 -- a delivery
 pub sound_delivered : (shape : Shape) (place : ℕ) (run : Progress) (sent : Sent) → IsSound shape run → slice_get run.sent place ≡ Some sent → IsSound shape (delivered_message place sent.message run)
-sound_delivered shape place run sent sound there = record { order = sound.order; some = sound.some; sent = sound.sent; last = sound.last; written = sound.written; received = (of_sent (λ (s : Sent). IsOwn shape run.journal s.message) run.sent place sent sound.sent there, sound.received) }
+sound_delivered shape place run sent sound there = record { order = sound.order; some = sound.some; sent = sound.sent; last = sound.last; nodes = sound.nodes; written = sound.written; received = (of_sent (λ (s : Sent). IsOwn shape run.journal s.message) run.sent place sent sound.sent there, sound.received) }
 
 pub sound_deliver : (shape : Shape) (place : ℕ) (run : Progress) → IsSound shape run → IsSound shape (deliver_step shape place run).run
 unfolding deliver_step
@@ -72,6 +72,7 @@ sound_taken shape run e rest sound same =
       sent = sound.sent;
       received = sound.received;
       last = inr (first_is_closed e run.last run.journal first);
+      nodes = sound.nodes;
       written = ap (λ (n : ℕ). n + length (worth_logging shape run.journal (e ∷ []))) sound.written
           ∙ sym (length-append (worth_logging shape run.journal (upto run.last run.journal)) (worth_logging shape run.journal (e ∷ [])))
           ∙ ap length (sym (worth_append shape run.journal (upto run.last run.journal) (e ∷ [])) ∙ ap (worth_logging shape run.journal) (sym upto_e));

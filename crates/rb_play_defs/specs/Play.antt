@@ -16,7 +16,8 @@ use Rattle.rb_log_defs.specs.File.{binlog_files}
 use Rattle.rb_journal_defs.specs.Journal.{Journal}
 use Rattle.rb_journal_defs.specs.Body.{Shape, mapped_tables}
 use Rattle.rb_journal_defs.specs.Table.{rows_of_table}
-use Rattle.rb_play_defs.specs.Step.{Progress, beginning, Stepped, unchanged, Answers, Injection, delivery_of_all, injection_of, tx_step, close_step, deliver_step, deliver_all_step, inject_step, last_epoch, written_bodies}
+use Rattle.rb_play_defs.specs.Step.{Progress, beginning, Stepped, unchanged, Answers, Injection, delivery_of_all, injection_of, site_step, last_epoch, written_bodies}
+use Rattle.rb_play_defs.specs.declared.event.SiteEvent.TheVariants as at_site
 
 -- site A of a script
 abbrev pub shape_of : Setup → Shape
@@ -28,7 +29,7 @@ log_outcome answers injection =
     outcomes.Logged answers.kept answers.known answers.old injection.count (record { 0 = injection.written })
     injection.missing.bucket injection.missing.place
 
--- `log`: every message that was never delivered is, and then the injector has its turn
+-- `log`: every message that was never delivered, and whose sender did not fail since, is, and then the injector has its turn
 unfoldable pub log_step : Shape → Progress → Stepped
 log_step shape run =
     let delivery = delivery_of_all shape run in
@@ -37,12 +38,15 @@ log_step shape run =
 
 -- an event of a script; those that do not run yet do nothing
 unfoldable pub event_step : Shape → Progress → Event → Stepped
-event_step shape run (events.Tx site operations) = tx_step shape operations run
-event_step shape run (events.Close site gci) = close_step shape gci run
-event_step shape run (events.Deliver site place) = deliver_step shape place run
-event_step shape run (events.DeliverAll site) = deliver_all_step shape run
-event_step shape run (events.Inject site) = inject_step shape run
+event_step shape run (events.Tx site operations) = site_step shape run (at_site.Tx operations)
+event_step shape run (events.Close site gci) = site_step shape run (at_site.Close gci)
+event_step shape run (events.Deliver site place) = site_step shape run (at_site.Deliver place)
+event_step shape run (events.DeliverAll site) = site_step shape run at_site.DeliverAll
+event_step shape run (events.Inject site) = site_step shape run at_site.Inject
 event_step shape run (events.Log site) = log_step shape run
+event_step shape run (events.Fail site node) = site_step shape run (at_site.Fail node)
+event_step shape run (events.Restart site node) = site_step shape run (at_site.Restart node)
+event_step shape run (events.Resend site) = site_step shape run at_site.Resend
 event_step shape run event = unchanged run outcomes.Nothing
 
 -- where a script has come, and what each event answered
@@ -59,16 +63,16 @@ abbrev pub played_on : Shape → Played → LinedEvent → Played
 played_on shape played lined = with_step lined.line played (event_step shape played.run lined.event)
 
 -- a script at its start
-abbrev pub not_played : Played
-not_played = record { run = beginning; outcomes = [] }
+abbrev pub not_played : Setup → Played
+not_played setup = record { run = beginning setup.a.groups setup.a.replicas; outcomes = [] }
 
 -- these events played in turn
-unfoldable pub play_of : Shape → List LinedEvent → Played
-play_of shape events = fold (played_on shape) not_played events
+unfoldable pub play_of : Setup → List LinedEvent → Played
+play_of setup events = fold (played_on (shape_of setup)) (not_played setup) events
 
 -- a script, played to its end
 abbrev pub play : Script → Played
-play script = play_of (shape_of script.setup) script.events
+play script = play_of script.setup script.events
 
 -- the bodies that site A has written then
 abbrev pub log_of : Script → List EpochBody

@@ -1,16 +1,25 @@
 -- What holds of a site at each point of a run.
-use Rattle.std.specs.Prelude.{◌≡◌, ◌⊎◌, ◌<◌, nat_le, length, filter}
+use Rattle.std.specs.Prelude.{◌≡◌, ◌⊎◌, ℕ, ◌*◌, ◌<◌, ◌≤◌, true, nat_le, length, filter}
 use Rattle.std.specs.List.{AllByRecursion}
 use Rattle.rb_base.specs.declared.message.Message.{Message}
 use Rattle.rb_journal_defs.specs.Journal.{Journal, closed_epochs}
 use Rattle.rb_journal_defs.specs.Body.{Shape}
 use Rattle.rb_journal_defs.specs.Order.{InOrder, IsClosed}
 use Rattle.rb_message_defs.specs.Message.{bucket_in, IsMessageOf}
-use Rattle.rb_play_defs.specs.Step.{Progress, worth_logging}
+use Rattle.rb_message_defs.specs.Nodes.{Nodes, node_at, owner_in, buffered, unacknowledged}
+use Rattle.rb_play_defs.specs.Step.{Progress, acknowledged_epoch, worth_logging}
 
 -- a message of one of the site's buckets, that is one of its journal
 abbrev pub IsOwn : Shape → Journal → Message → Type 0
 IsOwn shape journal message = (bucket_in message < shape.buckets) × IsMessageOf shape journal message
+
+-- so many buckets, each with a node and an owner, in whole groups
+pub record AreNodes (buckets : ℕ) (site : Nodes) : Type 0 where
+  pub some : 0 < site.replicas
+  pub nodes : length site.nodes ≡ buckets
+  pub owners : length site.owners ≡ buckets
+  pub groups : ℕ
+  pub whole : groups * site.replicas ≡ buckets
 
 -- epochs come in order; all that was sent and received is the journal's; the last taken epoch is a closed one, or there is none;
 -- and of the closed epochs up to it, those that have something to log are written
@@ -20,4 +29,11 @@ pub record IsSound (shape : Shape) (run : Progress) : Type 0 where
   pub sent : AllByRecursion (λ sent. IsOwn shape run.journal sent.message) run.sent
   pub received : AllByRecursion (IsOwn shape run.journal) run.received
   pub last : (run.last ≡ 0) ⊎ IsClosed run.last run.journal
+  pub nodes : AreNodes shape.buckets run.nodes
   pub written : run.written ≡ length (worth_logging shape run.journal (filter (λ epoch. nat_le epoch run.last) (closed_epochs run.journal)))
+
+-- the owner of a bucket is up, and has buffered since this epoch or longer: it has all that is not acknowledged of the bucket
+pub record CanSendAgain (shape : Shape) (run : Progress) (bucket epoch : ℕ) : Type 0 where
+  pub up : (node_at run.nodes (owner_in run.nodes bucket)).up ≡ true
+  pub since : (node_at run.nodes (owner_in run.nodes bucket)).since ≤ epoch
+  pub has : buffered shape (node_at run.nodes (owner_in run.nodes bucket)).since (acknowledged_epoch shape run) run.opened run.journal bucket ≡ unacknowledged shape (acknowledged_epoch shape run) run.opened run.journal bucket

@@ -1,6 +1,6 @@
 -- What an event does at a site, and what it answers.
-use Rattle.std.specs.Prelude.{ℕ, ◌+◌, ◌==◌, not, Bool, true, false, List, [], ◌∷◌, ◌++◌, length, filter, map, fold, count_by, Option, None, unwrap_or}
-use Rattle.std.specs.List.{list_any, last_or, scan, slice_get}
+use Rattle.std.specs.Prelude.{ℕ, ◌+◌, ◌*◌, ◌/◌, Bool, true, false, if◌then◌else◌, List, [], ◌∷◌, ◌++◌, length, filter, map, fold, count_by, Option, Some, None, unwrap_or}
+use Rattle.std.specs.List.{flat_map, last_or, scan, slice_get}
 use Rattle.std.specs.Option.{option_map_or}
 use Rattle.rb_base.specs.declared.row.Row.{Row}
 use Rattle.rb_base.specs.declared.change.Change.{Change}
@@ -18,15 +18,16 @@ use Rattle.rb_journal_defs.specs.Clock.{first_epoch, epoch_after}
 use Rattle.rb_message_defs.specs.declared.answers.Received.{Received}
 use Rattle.rb_message_defs.specs.declared.answers.Received.TheVariants as answers
 use Rattle.rb_message_defs.specs.declared.answers.Missing.{Missing}
-use Rattle.rb_message_defs.specs.Message.{home_node, parts_sent, dones_sent, sent_by}
+use Rattle.rb_message_defs.specs.Message.{parts_sent, done_message, sent_by}
+use Rattle.rb_message_defs.specs.Nodes.{Nodes, node_from, node_at, owner_in, needed_epoch, unacknowledged, sent_from, group_of, successor_of, owned_by, with_failure, with_restart, with_owner, returns, with_returns, numbers_in, waiting_places}
 use Rattle.rb_message_defs.specs.Received.{Fed, answer_to, missing_of}
 use Rattle.rb_message_defs.specs.Taken.{taken_epochs}
 use Rattle.rb_play_defs.specs.declared.event.SiteEvent.{SiteEvent}
-use Rattle.rb_play_defs.specs.declared.event.SiteEvent.TheVariants.{Tx, Close, Deliver, DeliverAll, Inject}
+use Rattle.rb_play_defs.specs.declared.event.SiteEvent.TheVariants.{Tx, Close, Deliver, DeliverAll, Inject, Fail, Restart, Resend}
 
 -- a site within a run: its journal, its open epoch, how many transactions it has numbered; all messages that its nodes sent, and
 -- the places of those that were delivered; the messages that the event buffer received, the newest first, the last epoch that was
--- taken from it, and how many bodies are written
+-- taken from it, and how many bodies are written; its nodes, and the first group that it lost, with the epoch that was needed then
 pub record Progress : Type 0 where
   pub journal : Journal
   pub opened : ℕ
@@ -36,10 +37,31 @@ pub record Progress : Type 0 where
   pub received : List Message
   pub last : ℕ
   pub written : ℕ
+  pub nodes : Nodes
+  pub lost : Option (ℕ × ℕ)
+
+-- so many groups of so many nodes each at the start: all are up, and each owns the bucket of its number
+abbrev pub nodes_at_first : (groups replicas : ℕ) → Nodes
+nodes_at_first groups replicas = record {
+  replicas = replicas;
+  nodes = map (λ number. node_from first_epoch) (numbers_below (groups * replicas));
+  owners = numbers_below (groups * replicas);
+}
 
 -- a site at the start
-abbrev pub beginning : Progress
-beginning = record { journal = []; opened = first_epoch; drawn = 0; sent = []; delivered = []; received = []; last = 0; written = 0 }
+abbrev pub beginning : (groups replicas : ℕ) → Progress
+beginning groups replicas = record {
+  journal = [];
+  opened = first_epoch;
+  drawn = 0;
+  sent = [];
+  delivered = [];
+  received = [];
+  last = 0;
+  written = 0;
+  nodes = nodes_at_first groups replicas;
+  lost = None;
+}
 
 -- where a run has come, and what the last event answered
 pub record Stepped : Type 0 where
@@ -74,7 +96,7 @@ abbrev pub committed : Shape → List ClientOp → Progress → Progress
 committed shape operations run = record run {
   journal = Client run.opened (run.drawn + 1) (tx_changes shape operations run) ∷ run.journal;
   drawn = run.drawn + 1;
-  sent = run.sent ++ map (sent_by home_node) (tx_messages shape operations run);
+  sent = run.sent ++ map (sent_by (owner_in run.nodes)) (tx_messages shape operations run);
 }
 
 -- the answer to an accepted transaction
@@ -88,13 +110,44 @@ tx_step shape operations run =
     option_map_or (λ refusal. unchanged run (refused refusal)) (refusal_of (rows_of shape run) operations)
     (record { run = committed shape operations run; outcome = commit_outcome (committed shape operations run) })
 
--- the open epoch closes, each bucket's owner tells its end, and the next epoch opens
+-- the epoch of the last body, or 0
+abbrev pub last_epoch : List EpochBody → ℕ
+last_epoch bodies = unwrap_or (last_or None (map (λ body. body.epoch.0) bodies)) 0
+
+-- the bodies that a site has written
+abbrev pub written_bodies : Shape → Progress → List EpochBody
+written_bodies shape run = logged_bodies shape run.written run.journal
+
+-- the epoch that is acknowledged: the last one that is written
+abbrev pub acknowledged_epoch : Shape → Progress → ℕ
+acknowledged_epoch shape run = last_epoch (written_bodies shape run)
+
+-- the epoch that is needed
+abbrev pub needed_of : Shape → Progress → ℕ
+needed_of shape run = needed_epoch (acknowledged_epoch shape run) run.opened run.journal
+
+-- what a node sends again of a bucket
+abbrev pub sent_again : Shape → Progress → (sender bucket : ℕ) → List Sent
+sent_again shape run sender bucket = sent_from sender (unacknowledged shape (acknowledged_epoch shape run) run.opened run.journal bucket)
+
+-- the site whose open epoch is closed, before anything is sent
+abbrev pub only_closed : (gci : Bool) → Progress → Progress
+only_closed gci run = record run { journal = Closed run.opened ∷ run.journal; opened = epoch_after gci run.opened }
+
+-- what a group sends at a close: the owners tell the ends of its buckets, and the home nodes that get theirs back send them again
+abbrev pub sent_at_close : Shape → (before after : Progress) → (group : ℕ) → List Sent
+sent_at_close shape before after group =
+    map (λ bucket. sent_by (owner_in before.nodes) (done_message shape before.opened bucket before.journal)) (numbers_in before.nodes group)
+    ++ flat_map (λ bucket. sent_again shape after bucket bucket) (filter (returns before.nodes (needed_of shape after)) (numbers_in before.nodes group))
+
+-- the open epoch closes, group by group, and the next epoch opens
 abbrev pub closed : Shape → (gci : Bool) → Progress → Progress
-closed shape gci run = record run {
-  journal = Closed run.opened ∷ run.journal;
-  opened = epoch_after gci run.opened;
-  sent = run.sent ++ map (sent_by home_node) (dones_sent shape run.opened run.journal);
-}
+closed shape gci run =
+    let after = only_closed gci run in
+    record after {
+      sent = run.sent ++ flat_map (sent_at_close shape run after) (numbers_below (shape.buckets / run.nodes.replicas));
+      nodes = with_returns (needed_of shape after) run.nodes;
+    }
 
 -- the same, with its answer
 unfoldable pub close_step : Shape → (gci : Bool) → Progress → Stepped
@@ -102,6 +155,50 @@ close_step shape gci run = record {
   run = closed shape gci run;
   outcome = outcomes.Closed (record { 0 = run.opened }) (length (closed shape gci run).sent);
 }
+
+-- a node that fails: its buckets go to its successor, which sends them again
+abbrev pub taken_over : Shape → (node successor : ℕ) → Progress → Progress
+taken_over shape node successor run = record run {
+  nodes = with_owner node successor (with_failure node (length run.sent) run.nodes);
+  sent = run.sent ++ flat_map (sent_again shape run successor) (owned_by run.nodes node);
+}
+
+-- the same, with its answer
+abbrev pub takeover_step : Shape → (node successor : ℕ) → Progress → Stepped
+takeover_step shape node successor run = record {
+  run = taken_over shape node successor run;
+  outcome = outcomes.Failed (length (owned_by run.nodes node)) (length (taken_over shape node successor run).sent);
+}
+
+-- a node whose group has no other one that covers: the group is lost
+abbrev pub loss_step : Shape → (node : ℕ) → Progress → Stepped
+loss_step shape node run = record {
+  run = record run { nodes = with_failure node (length run.sent) run.nodes; lost = Some (group_of run.nodes node, needed_of shape run) };
+  outcome = outcomes.Lost (group_of run.nodes node) (record { 0 = needed_of shape run });
+}
+
+-- a node fails, where it is up
+unfoldable pub fail_step : Shape → (node : ℕ) → Progress → Stepped
+fail_step shape node run =
+    if (node_at run.nodes node).up
+    then option_map_or (λ successor. takeover_step shape node successor run) (successor_of run.nodes (needed_of shape run) node) (loss_step shape node run)
+    else unchanged run (outcomes.NodeDown node)
+
+-- a node starts again, where it is down: its buffer is empty, and begins behind the open epoch
+unfoldable pub restart_step : (node : ℕ) → Progress → Stepped
+restart_step node run =
+    if (node_at run.nodes node).up then unchanged run (outcomes.NodeUp node)
+    else record { run = record run { nodes = with_restart node run.opened run.nodes }; outcome = outcomes.Restarted (record { 0 = run.opened + 1 }) }
+
+-- every owner sends its buckets again, bucket 0 first
+unfoldable pub resend_step : Shape → Progress → Stepped
+resend_step shape run =
+    let sent = run.sent ++ flat_map (λ bucket. sent_again shape run (owner_in run.nodes bucket) bucket) (numbers_below shape.buckets) in
+    record { run = record run { sent = sent }; outcome = outcomes.Resent (length sent) }
+
+-- an event that a lost site refuses
+abbrev pub unless_lost : Progress → Stepped → Stepped
+unless_lost run step = option_map_or (λ loss. unchanged run (outcomes.SiteLost loss.0 (record { 0 = loss.1 }))) run.lost step
 
 -- what the event buffer was fed
 abbrev pub fed_by : Shape → Progress → Fed
@@ -125,9 +222,13 @@ deliver_step shape place run =
       outcome = answer_outcome (answer_to (fed_by shape run) sent.message);
     }) (slice_get run.sent place) (unchanged run (outcomes.NoMessage place (length run.sent)))
 
--- the places that were never delivered
+-- how many messages were sent when a node last failed
+abbrev pub failed_in : Progress → (node : ℕ) → ℕ
+failed_in run node = (node_at run.nodes node).failed_at
+
+-- the places that were never delivered, but for those whose sender failed since
 abbrev pub undelivered : Progress → List ℕ
-undelivered run = filter (λ place. not (list_any (λ delivered. delivered == place) run.delivered)) (numbers_below (length run.sent))
+undelivered run = waiting_places (failed_in run) run.sent run.delivered
 
 -- the site behind the delivery of a place
 abbrev pub after_delivery : Shape → Progress → (place : ℕ) → Progress
@@ -163,7 +264,7 @@ is_old outcome = false
 abbrev pub answers_in : List Outcome → Answers
 answers_in outcomes = record { kept = count_by is_kept outcomes; known = count_by is_known outcomes; old = count_by is_old outcomes }
 
--- the delivery of every message that was never delivered
+-- the delivery of every message that was never delivered and whose sender did not fail since
 pub record Delivery : Type 0 where
   pub run : Progress
   pub answers : Answers
@@ -187,14 +288,6 @@ takeable shape run = taken_epochs (fed_by shape run) run.journal
 -- those among these epochs that have something to log
 abbrev pub worth_logging : Shape → Journal → List ℕ → List ℕ
 worth_logging shape journal epochs = filter (λ epoch. has_something_to_log (body_of shape epoch journal)) epochs
-
--- the epoch of the last body, or 0
-abbrev pub last_epoch : List EpochBody → ℕ
-last_epoch bodies = unwrap_or (last_or None (map (λ body. body.epoch.0) bodies)) 0
-
--- the bodies that a site has written
-abbrev pub written_bodies : Shape → Progress → List EpochBody
-written_bodies shape run = logged_bodies shape run.written run.journal
 
 -- the site behind one epoch that is taken, and written where it has something to log
 abbrev pub with_taken : Shape → Progress → (epoch : ℕ) → Progress
@@ -237,8 +330,11 @@ inject_step shape run =
 
 -- an event at the site
 unfoldable pub site_step : Shape → Progress → SiteEvent → Stepped
-site_step shape run (Tx operations) = tx_step shape operations run
-site_step shape run (Close gci) = close_step shape gci run
+site_step shape run (Tx operations) = unless_lost run (tx_step shape operations run)
+site_step shape run (Close gci) = unless_lost run (close_step shape gci run)
 site_step shape run (Deliver place) = deliver_step shape place run
 site_step shape run DeliverAll = deliver_all_step shape run
 site_step shape run Inject = inject_step shape run
+site_step shape run (Fail node) = unless_lost run (fail_step shape node run)
+site_step shape run (Restart node) = unless_lost run (restart_step node run)
+site_step shape run Resend = unless_lost run (resend_step shape run)

@@ -191,6 +191,156 @@ two_nodes_report =
     ∷ codes "row 3 30"
     ∷ codes "end" ∷ []
 
+-- a takeover in an open epoch
+abbrev pub takeover_script : List (List ℕ)
+takeover_script =
+    codes "site A groups 1 replicas 2 limit 1048576"
+    ∷ codes "table t num"
+    ∷ codes "tx A ins t 1 10 ; ins t 2 20"
+    ∷ codes "deliver A 1"
+    ∷ codes "tx A ins t 3 30"
+    ∷ codes "fail A 0"
+    ∷ codes "epoch A"
+    ∷ codes "log A"
+    ∷ codes "fail A 0"
+    ∷ codes "restart A 1" ∷ []
+
+-- its report
+abbrev pub takeover_report : List (List ℕ)
+takeover_report =
+    codes "ndb replication report"
+    ∷ codes "3 ok transid=1 epoch=4294967296 sent=2"
+    ∷ codes "4 kept"
+    ∷ codes "5 ok transid=2 epoch=4294967296 sent=3"
+    ∷ codes "6 failed takeover=1 sent=5"
+    ∷ codes "7 closed 4294967296 sent=7"
+    ∷ codes "8 delivered kept=4 known=0 old=0 wrote 1 written=4294967296 missing=0:done"
+    ∷ codes "9 node down 0"
+    ∷ codes "10 node up 1"
+    ∷ codes "log A files=1 epochs=1 written=4294967296"
+    ∷ codes "table A t rows=3"
+    ∷ codes "row 1 10"
+    ∷ codes "row 2 20"
+    ∷ codes "row 3 30"
+    ∷ codes "end" ∷ []
+
+-- a group that is lost
+abbrev pub lost_group_script : List (List ℕ)
+lost_group_script =
+    codes "site A groups 1 replicas 2 limit 1048576"
+    ∷ codes "table t num"
+    ∷ codes "tx A ins t 1 10"
+    ∷ codes "fail A 1"
+    ∷ codes "restart A 1"
+    ∷ codes "epoch A"
+    ∷ codes "fail A 0"
+    ∷ codes "tx A ins t 2 20"
+    ∷ codes "log A"
+    ∷ codes "deliver A 2" ∷ []
+
+-- its report
+abbrev pub lost_group_report : List (List ℕ)
+lost_group_report =
+    codes "ndb replication report"
+    ∷ codes "3 ok transid=1 epoch=4294967296 sent=1"
+    ∷ codes "4 failed takeover=1 sent=1"
+    ∷ codes "5 restarted since=4294967297"
+    ∷ codes "6 closed 4294967296 sent=3"
+    ∷ codes "7 lost 0 4294967296"
+    ∷ codes "8 site lost 0 4294967296"
+    ∷ codes "9 delivered kept=0 known=0 old=0 wrote 0 written=0 missing=0:done"
+    ∷ codes "10 kept"
+    ∷ codes "log A files=1 epochs=0 written=0"
+    ∷ codes "table A t rows=1"
+    ∷ codes "row 1 10"
+    ∷ codes "end" ∷ []
+
+-- a resend
+abbrev pub resend_script : List (List ℕ)
+resend_script =
+    codes "table t num"
+    ∷ codes "tx A ins t 1 1"
+    ∷ codes "epoch A"
+    ∷ codes "epoch A"
+    ∷ codes "resend A"
+    ∷ codes "log A" ∷ []
+
+-- its report
+abbrev pub resend_report : List (List ℕ)
+resend_report =
+    codes "ndb replication report"
+    ∷ codes "2 ok transid=1 epoch=4294967296 sent=1"
+    ∷ codes "3 closed 4294967296 sent=2"
+    ∷ codes "4 closed 4294967297 sent=3"
+    ∷ codes "5 resent sent=6"
+    ∷ codes "6 delivered kept=3 known=3 old=0 wrote 1 written=4294967296 missing=0:done"
+    ∷ codes "log A files=1 epochs=1 written=4294967296"
+    ∷ codes "table A t rows=1"
+    ∷ codes "row 1 1"
+    ∷ codes "end" ∷ []
+
+-- a bucket that goes home
+abbrev pub return_script : List (List ℕ)
+return_script =
+    codes "site A groups 1 replicas 2 limit 1048576"
+    ∷ codes "table t num"
+    ∷ codes "tx A ins t 1 10 ; ins t 2 20"
+    ∷ codes "fail A 0"
+    ∷ codes "restart A 0"
+    ∷ codes "epoch A"
+    ∷ codes "log A"
+    ∷ codes "tx A ins t 3 30"
+    ∷ codes "epoch A"
+    ∷ codes "fail A 1"
+    ∷ codes "log A" ∷ []
+
+-- its report
+abbrev pub return_report : List (List ℕ)
+return_report =
+    codes "ndb replication report"
+    ∷ codes "3 ok transid=1 epoch=4294967296 sent=2"
+    ∷ codes "4 failed takeover=1 sent=3"
+    ∷ codes "5 restarted since=4294967297"
+    ∷ codes "6 closed 4294967296 sent=5"
+    ∷ codes "7 delivered kept=4 known=0 old=0 wrote 1 written=4294967296 missing=0:done"
+    ∷ codes "8 ok transid=2 epoch=4294967297 sent=6"
+    ∷ codes "9 closed 4294967297 sent=10"
+    ∷ codes "10 failed takeover=1 sent=11"
+    ∷ codes "11 delivered kept=3 known=0 old=0 wrote 1 written=4294967297 missing=0:done"
+    ∷ codes "log A files=1 epochs=2 written=4294967297"
+    ∷ codes "table A t rows=3"
+    ∷ codes "row 1 10"
+    ∷ codes "row 2 20"
+    ∷ codes "row 3 30"
+    ∷ codes "end" ∷ []
+
+-- takeovers in cyclic order
+abbrev pub cycle_script : List (List ℕ)
+cycle_script =
+    codes "site A groups 1 replicas 4 limit 1048576"
+    ∷ codes "table t num"
+    ∷ codes "tx A ins t 1 10"
+    ∷ codes "fail A 2"
+    ∷ codes "fail A 0"
+    ∷ codes "fail A 3"
+    ∷ codes "epoch A"
+    ∷ codes "log A" ∷ []
+
+-- its report
+abbrev pub cycle_report : List (List ℕ)
+cycle_report =
+    codes "ndb replication report"
+    ∷ codes "3 ok transid=1 epoch=4294967296 sent=1"
+    ∷ codes "4 failed takeover=1 sent=2"
+    ∷ codes "5 failed takeover=1 sent=2"
+    ∷ codes "6 failed takeover=2 sent=3"
+    ∷ codes "7 closed 4294967296 sent=7"
+    ∷ codes "8 delivered kept=5 known=0 old=0 wrote 1 written=4294967296 missing=0:done"
+    ∷ codes "log A files=1 epochs=1 written=4294967296"
+    ∷ codes "table A t rows=1"
+    ∷ codes "row 1 10"
+    ∷ codes "end" ∷ []
+
 -- how these lines are refused: the first bad line, and what is wrong with it
 abbrev pub are_refused : List (List ℕ) → (line : ℕ) → ScriptKind → Type 0
 are_refused lines line kind = script_of (text_of_lines lines) ≡ Err (record { line = line; kind = kind })

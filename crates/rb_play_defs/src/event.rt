@@ -9,8 +9,14 @@ pub enum SiteEvent {
     Close(bool),
     /// The message at this place of the Sent list reaches the event buffer.
     Deliver(u64),
-    /// Each message that was never delivered does, in the order of the Sent list.
+    /// Each message that was never delivered, and whose sender did not fail since, does, in the order of the Sent list.
     DeliverAll,
     /// The injector takes and writes all whole epochs.
     Inject,
+    /// A data node fails.
+    Fail(u32),
+    /// A data node starts again.
+    Restart(u32),
+    /// Each owner sends its unacknowledged messages again.
+    Resend,
 }

@@ -6,6 +6,7 @@
 #![tactic(auto)]
 
 mod event;
+pub mod law;
 pub mod worked;
 
 pub use event::SiteEvent;

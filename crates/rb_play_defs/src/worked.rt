@@ -1,7 +1,7 @@
 ghost use Rattle.std.specs.Prelude.{◌≡◌, ◌∷◌, [], codes};
 ghost use Rattle.rb_text_defs.specs.declared.script.ScriptKind.TheVariants as ScriptKind;
 ghost use Rattle.rb_text_defs.specs.Report.{text_of_lines};
-ghost use Rattle.rb_play_defs.specs.Worked.{report_of_lines, the_first_path_script, the_first_path_report, empty_epochs_script, empty_epochs_report, refused_transactions_script, refused_transactions_report, order_and_repeats_script, order_and_repeats_report, lost_first_script, lost_first_report, two_nodes_script, two_nodes_report, are_refused};
+ghost use Rattle.rb_play_defs.specs.Worked.{report_of_lines, the_first_path_script, the_first_path_report, empty_epochs_script, empty_epochs_report, refused_transactions_script, refused_transactions_report, order_and_repeats_script, order_and_repeats_report, lost_first_script, lost_first_report, two_nodes_script, two_nodes_report, takeover_script, takeover_report, lost_group_script, lost_group_report, resend_script, resend_report, return_script, return_report, cycle_script, cycle_report, are_refused};
 
 /// Two inserts in one epoch, which is logged.
 pub fn the_first_path()
@@ -31,6 +31,31 @@ pub fn lost_first()
 /// A group of two nodes, among which the keys are spread.
 pub fn two_nodes()
     ensures { report_of_lines two_nodes_script ≡ text_of_lines two_nodes_report }
+{}
+
+/// A node fails within an open epoch, and the other one of its group takes its bucket over.
+pub fn takeover()
+    ensures { report_of_lines takeover_script ≡ text_of_lines takeover_report }
+{}
+
+/// A node fails while the other one of its group does not cover yet.
+pub fn lost_group()
+    ensures { report_of_lines lost_group_script ≡ text_of_lines lost_group_report }
+{}
+
+/// Owners send again what is not acknowledged.
+pub fn resend()
+    ensures { report_of_lines resend_script ≡ text_of_lines resend_report }
+{}
+
+/// A node fails and starts again, and its bucket goes home once it covers, so that the other one may fail.
+pub fn return_home()
+    ensures { report_of_lines return_script ≡ text_of_lines return_report }
+{}
+
+/// Of four nodes one after the other fails, and the next one in cyclic order takes over.
+pub fn cyclic_takeovers()
+    ensures { report_of_lines cycle_script ≡ text_of_lines cycle_report }
 {}
 
 /// Scripts that are refused, each for its first bad line.

@@ -1,18 +1,31 @@
 -- Lines of other lengths than their forms have, and the pieces of a transaction.
-use Rattle.std.proofs.Common.{◌≡◌, Bool, true, false, cond, List, [], ◌∷◌, length, map, get_or, None, refl, ap, ◌∙◌, arith}
+use Rattle.std.proofs.Common.{◌≡◌, ℕ, Bool, true, false, cond, List, [], ◌∷◌, length, map, get_or, Option, Some, None, refl, ap, ◌∙◌, arith}
 use Rattle.std.specs.Option.{option_map}
 use Rattle.std.specs.List.{slice_split, onto_first}
 use Rattle.rb_base.specs.declared.site.SiteId.{SiteId}
 use Rattle.rb_base.specs.declared.script.Event.{Event}
-use Rattle.rb_text_defs.specs.Words.{Word}
-use Rattle.rb_text_defs.specs.Form.{EventLine, site_event, site_line}
-use Rattle.rb_script.specs.Seen.{only_site}
+use Rattle.rb_text_defs.specs.Words.{Word, ◌>>=◌}
+use Rattle.rb_text_defs.specs.Form.{EventLine, node_event, site_event, site_line, site_of, small_number_of}
+use Rattle.rb_script.specs.Seen.{only_site, site_and_node}
 
 pub site_event_only : (event : SiteId → Event) (words : List Word) → site_event event words ≡ option_map (λ site. EventLine (event site)) (only_site words)
 unfolding site_event only_site
 site_event_only event [] = refl
 site_event_only event (site ∷ []) = refl
 site_event_only event (site ∷ next ∷ words) = refl
+
+pub node_event_both : (event : SiteId → ℕ → Event) (words : List Word) → node_event event words ≡ option_map (λ (both : SiteId × ℕ). EventLine (event both.0 both.1)) (site_and_node words)
+unfolding node_event site_and_node
+node_event_both event [] = refl
+node_event_both event (site ∷ []) = refl
+node_event_both event (site ∷ node ∷ next ∷ words) = refl
+node_event_both event (site ∷ node ∷ []) = both (site_of site) (small_number_of node)
+  where
+    both : (site : Option SiteId) (node : Option ℕ)
+        → (site >>= (λ id. node >>= (λ number. Some (EventLine (event id number))))) ≡ option_map (λ (both : SiteId × ℕ). EventLine (event both.0 both.1)) (site >>= (λ id. node >>= (λ number. Some (id, number))))
+    both None node = refl
+    both (Some id) None = refl
+    both (Some id) (Some number) = refl
 
 pub site_line_other : (words : List Word) → (length words ≡ 7 → ⊥) → site_line words ≡ None
 unfolding site_line

@@ -1,7 +1,8 @@
 -- What the parser's own words, operations and forms stand for in the definitions.
-use Rattle.std.specs.Prelude.{List, [], ◌∷◌, map, Option, None}
+use Rattle.std.specs.Prelude.{ℕ, List, [], ◌∷◌, map, Option, Some, None}
 use Rattle.rb_base.specs.declared.site.SiteId.{SiteId}
 use Rattle.rb_text_defs.specs.Words as words
+use Rattle.rb_text_defs.specs.Words.{◌>>=◌}
 use Rattle.rb_text_defs.specs.Form as forms
 use Rattle.rb_script.specs.declared.word.Word.{Word}
 use Rattle.rb_script.specs.declared.word.Word.TheVariants.{Plain, Quoted}
@@ -37,3 +38,11 @@ reading_seen (Says form) = forms.Says (form_seen form)
 unfoldable pub only_site : List words.Word → Option SiteId
 only_site (site ∷ []) = forms.site_of site
 only_site words = None
+
+-- the site and the node of words that are nothing else
+unfoldable pub site_and_node : List words.Word → Option (SiteId × ℕ)
+site_and_node (site ∷ node ∷ []) = do
+  id ← forms.site_of site
+  number ← forms.small_number_of node
+  Some (id, number)
+site_and_node words = None

@@ -1,10 +1,10 @@
 -- What the lines so far tell, and what keeps to the limits.
-use Rattle.std.specs.Prelude.{◌≡◌, ℕ, ◌+◌, ◌<◌, ◌≤◌, Bool, List, [], ◌∷◌, length, filter_map, sum_by, Option}
+use Rattle.std.specs.Prelude.{◌≡◌, ◌+◌, ◌<◌, ◌≤◌, Bool, List, [], ◌∷◌, length, filter_map, sum_by, Option}
 use Rattle.std.specs.List.{find, list_any}
 use Rattle.std.specs.Option.{option_map}
 use Rattle.rb_text_defs.specs.declared.script.Limit.{Limit}
 use Rattle.rb_text_defs.specs.Form.{Form, Reading}
-use Rattle.rb_text_defs.specs.Script.{first_of, shape_in, tables_in, is_event, changes_in_form, closes_in_form, events_of, form_in, most_lines, most_tables, most_changes}
+use Rattle.rb_text_defs.specs.Script.{first_of, shape_in, tables_in, is_event, changes_in_form, closes_in_form, restarts_in_form, events_of, form_in, most_lines, most_tables, most_changes}
 use Rattle.rb_script.specs.declared.before.Before.{Before}
 
 -- the forms that lines say
@@ -18,17 +18,15 @@ pub record TellsForms (forms : List Form) (before : Before) : Type 0 where
   pub has_event : before.has_event ≡ list_any is_event forms
   pub changes : before.changes ≡ sum_by changes_in_form forms
   pub closes : before.closes ≡ sum_by closes_in_form forms
-
--- how many closes the limit of work lets be
-abbrev pub most_closes : ℕ
-most_closes = 125000
+  pub restarts : before.restarts ≡ sum_by restarts_in_form forms
 
 -- so little that one more line can be counted
 pub record IsSmall (before : Before) : Type 0 where
   pub lines : before.lines ≤ most_lines
   pub tables : length before.tables ≤ most_tables
   pub changes : before.changes ≤ most_changes
-  pub closes : before.closes ≤ most_closes
+  pub closes : before.closes ≤ before.lines
+  pub restarts : before.restarts ≤ before.lines
 
 -- what the lines so far tell, within the limits
 pub record Tells (readings : List Reading) (before : Before) : Type 0 where
@@ -42,7 +40,6 @@ pub record HasRoom (before : Before) (form : Form) : Type 0 where
   pub lines : before.lines < most_lines
   pub tables : length before.tables + length (tables_in (form ∷ [])) ≤ most_tables
   pub changes : before.changes + changes_in_form form ≤ most_changes
-  pub closes : before.closes + closes_in_form form ≤ most_closes
 
 -- the first limit that is passed, of limits with whether each of them is
 abbrev pub first_passed : List (Bool × Limit) → Option Limit

@@ -1,12 +1,13 @@
-ghost use Rattle.std.specs.Prelude.{◌≡◌, ◌+◌, ◌<◌, ◌≤◌, ◌∷◌, [], ◌++◌, List, length, map, IfNone, Some, None, OnOk, true, false, option_map};
+ghost use Rattle.std.specs.Prelude.{◌≡◌, ◌+◌, ◌*◌, ◌<◌, ◌≤◌, nat_le, ◌∷◌, [], ◌++◌, List, length, map, IfNone, Some, None, OnOk, true, false, option_map};
+ghost use Rattle.std.specs.Option.{option_map_or};
 ghost use Rattle.rb_base.specs.declared.script.Event.TheVariants as events;
 ghost use Rattle.rb_text_defs.specs.Form.{EventLine, Form as LineForm, Reading, Says, Skipped};
-ghost use Rattle.rb_text_defs.specs.Script.{bad_line, client_op, closes_in_form, is_misplaced, limit_passed, most_changes, most_lines, most_tables, refusal_of_line, script_in};
+ghost use Rattle.rb_text_defs.specs.Script.{bad_line, client_op, closes_in_form, is_misplaced, limit_passed, most_changes, most_lines, most_tables, node_in, refusal_of_line, restarts_in_form, script_in};
 ghost use Rattle.rb_script.specs.Seen.{form_seen, operation_seen};
-ghost use Rattle.rb_script.specs.Tells.{HasRoom, IsSmall, Tells, TellsForms, forms_of, most_closes};
+ghost use Rattle.rb_script.specs.Tells.{HasRoom, IsSmall, Tells, TellsForms, forms_of};
 
 use crate::form::Form;
-use crate::limit::{DEFAULT_LIMIT, MOST_LINES, event_limit, site_limit, table_limit, tx_limit};
+use crate::limit::{DEFAULT_LIMIT, MOST_LINES, site_limit, table_limit, tx_limit, work_limit};
 use crate::operation::Operation;
 use crate::table::{all_suit, client_ops, table_named};
 use rb_base::{Bytes, Columns, Event, Mode, NoMemory, Schema, Schemas, Setup, SiteId, SiteSetup};
@@ -34,6 +35,8 @@ pub(crate) struct Before {
     pub(crate) changes: u32,
     /// How many epochs are closed.
     pub(crate) closes: u32,
+    /// How often a node fails or starts, or all owners send again.
+    pub(crate) restarts: u32,
     pub(crate) events: LinedEvents,
 }
 
@@ -50,6 +53,7 @@ impl Before {
             has_event: false,
             changes: 0,
             closes: 0,
+            restarts: 0,
             events: LinedEvents::new(alloc),
         }
     }
@@ -81,7 +85,27 @@ impl Before {
                 self.has_event || table_named(self.tables.as_slice(), name).is_some()
             }
             Form::Tx(_, operations) => !all_suit(self.tables.as_slice(), operations),
-            Form::Event(_) => false,
+            Form::Event(event) => self.lacks_node(event),
+        }
+    }
+
+    /// Whether an event names a node that the site does not have.
+    fn lacks_node(&self, event: &Event) -> bool
+        ensures { result ≡ option_map_or (nat_le (option_map_or (λ shape. shape.groups * shape.replicas) self.now.site 1)) (node_in event.now) false }
+    {
+        match node_in(event) {
+            Some(node) => self.nodes() <= u64::from(node),
+            None => false,
+        }
+    }
+
+    /// How many nodes the site has.
+    fn nodes(&self) -> u64
+        ensures { result ≡ option_map_or (λ shape. shape.groups * shape.replicas) self.now.site 1 }
+    {
+        match self.site {
+            Some(shape) => nodes_of(shape),
+            None => 1,
         }
     }
 
@@ -98,8 +122,14 @@ impl Before {
         match form {
             Form::Site(_, shape) => site_limit(*shape),
             Form::Table(_, columns) => table_limit(self.tables.as_slice(), columns.as_slice()),
-            Form::Tx(_, operations) => tx_limit(self.changes, self.closes, operations.len()),
-            Form::Event(event) => event_limit(self.changes, self.closes, closes_in(event)),
+            Form::Tx(_, operations) => {
+                tx_limit(self.changes, self.closes, self.restarts, operations.len())
+            }
+            Form::Event(event) => work_limit(
+                self.changes,
+                self.closes + closes_in(event),
+                self.restarts + restarts_in(event),
+            ),
         }
     }
 
@@ -165,6 +195,7 @@ impl Before {
           has_event = self.old.has_event;
           changes = self.old.changes;
           closes = self.old.closes;
+          restarts = self.old.restarts;
           events = self.old.events;
         } }
     {
@@ -181,6 +212,7 @@ impl Before {
           has_event = self.old.has_event;
           changes = self.old.changes;
           closes = self.old.closes;
+          restarts = self.old.restarts;
           events = self.old.events;
         }) }
     {
@@ -206,6 +238,7 @@ impl Before {
           has_event = true;
           changes = self.old.changes + length (map operation_seen operations.now);
           closes = self.old.closes;
+          restarts = self.old.restarts;
           events = self.old.events ++ record {
             line = self.old.lines + 1;
             event = events.Tx site (map (client_op self.old.tables) (map operation_seen operations.now));
@@ -225,20 +258,24 @@ impl Before {
 
     fn take_event(&mut self, event: Event) -> Result<(), NoMemory>
         requires lines { self.old.lines < most_lines }
-        requires closes { self.old.closes ≤ most_closes }
-        ensures { OnOk result (self.new ≡ record {
+        requires closes { self.old.closes ≤ self.old.lines }
+        requires restarts { self.old.restarts ≤ self.old.lines }
+        ensures few { OnOk result ((self.new.closes ≤ self.new.lines) × (self.new.restarts ≤ self.new.lines)) }
+        ensures taken { OnOk result (self.new ≡ record {
           lines = self.old.lines + 1;
           site = self.old.site;
           tables = self.old.tables;
           has_event = true;
           changes = self.old.changes;
           closes = self.old.closes + closes_in_form (EventLine event);
+          restarts = self.old.restarts + restarts_in_form (EventLine event);
           events = self.old.events ++ record { line = self.old.lines + 1; event = event } ∷ [];
         }) }
     {
         self.lines += 1;
         self.has_event = true;
         self.closes += closes_in(&event);
+        self.restarts += restarts_in(&event);
         self.events.push(LinedEvent {
             line: self.lines,
             event,
@@ -256,4 +293,33 @@ fn closes_in(event: &Event) -> u32
         Event::Close(..) => 1,
         _ => 0,
     }
+}
+
+/// How often an event makes a node fail or start, or all owners send again.
+fn restarts_in(event: &Event) -> u32
+    ensures restarts { result ≡ restarts_in_form (EventLine event.now) }
+    ensures few { result ≤ 1 }
+{
+    match event {
+        Event::Fail(..) | Event::Restart(..) | Event::Resend(_) => 1,
+        _ => 0,
+    }
+}
+
+/// The node that an event names.
+fn node_in(event: &Event) -> Option<u32>
+    ensures { result ≡ node_in event.now }
+{
+    match event {
+        Event::Fail(_, node) => Some(*node),
+        Event::Restart(_, node) => Some(*node),
+        _ => None,
+    }
+}
+
+/// How many nodes a site of this shape has.
+fn nodes_of(shape: SiteSetup) -> u64
+    ensures { result ≡ shape.groups * shape.replicas }
+{
+    u64::from(shape.groups) * u64::from(shape.replicas)
 }

@@ -2,8 +2,8 @@ ghost use Rattle.std.specs.Prelude.{◌≡◌, [], ◌∷◌, codes, map, IfOk, 
 ghost use Rattle.std.specs.List.{slice_split};
 ghost use Rattle.rb_base.specs.declared.script.Event.TheVariants as events;
 ghost use Rattle.rb_text_defs.specs.Words.{all_of};
-ghost use Rattle.rb_text_defs.specs.Form.{deliver_line, form_from, form_of, is_word, operation_of, site_event, site_line, site_of, small_number_of, table_line, tx_line, type_of};
-ghost use Rattle.rb_script.specs.Seen.{form_seen, only_site, operation_seen, word_of};
+ghost use Rattle.rb_text_defs.specs.Form.{deliver_line, form_from, form_of, is_word, node_event, operation_of, site_event, site_line, site_of, small_number_of, table_line, tx_line, type_of};
+ghost use Rattle.rb_script.specs.Seen.{form_seen, only_site, operation_seen, site_and_node, word_of};
 
 use crate::operation::{Operation, read_operation};
 use crate::word::Word;
@@ -59,6 +59,12 @@ fn form_from<'a>(
         Ok(inject_line(words))
     } else if first.is(b"log") {
         Ok(log_line(words))
+    } else if first.is(b"fail") {
+        Ok(fail_line(words))
+    } else if first.is(b"restart") {
+        Ok(restart_line(words))
+    } else if first.is(b"resend") {
+        Ok(resend_line(words))
     } else {
         Ok(None)
     }
@@ -281,6 +287,46 @@ fn log_line<'a>(words: &[Word<'_>]) -> Option<Form<'a>>
 {
     let site = only_site(words)?;
     Some(Form::Event(Event::Log(site)))
+}
+
+/// A resend of what is not acknowledged at the site that these words name.
+#[tactic(auto, using(crate::proofs::FormLaws::site_event_only))]
+fn resend_line<'a>(words: &[Word<'_>]) -> Option<Form<'a>>
+    ensures { option_map form_seen result ≡ site_event (λ site. events.Resend site) (map word_of words.now) }
+{
+    let site = only_site(words)?;
+    Some(Form::Event(Event::Resend(site)))
+}
+
+/// The site and the node of words that are nothing else.
+#[tactic(auto, unfolding(crate::specs::Seen::site_and_node))]
+fn site_and_node(words: &[Word<'_>]) -> Option<(SiteId, u32)>
+    ensures { result ≡ site_and_node (map word_of words.now) }
+{
+    let [site, node] = words else {
+        return None;
+    };
+    let site = site_of(*site)?;
+    let node = small_number(*node)?;
+    Some((site, node))
+}
+
+/// A failure of the node that these words name: `S NODE`.
+#[tactic(auto, using(crate::proofs::FormLaws::node_event_both))]
+fn fail_line<'a>(words: &[Word<'_>]) -> Option<Form<'a>>
+    ensures { option_map form_seen result ≡ node_event (λ site node. events.Fail site node) (map word_of words.now) }
+{
+    let (site, node) = site_and_node(words)?;
+    Some(Form::Event(Event::Fail(site, node)))
+}
+
+/// A restart of the node that these words name: `S NODE`.
+#[tactic(auto, using(crate::proofs::FormLaws::node_event_both))]
+fn restart_line<'a>(words: &[Word<'_>]) -> Option<Form<'a>>
+    ensures { option_map form_seen result ≡ node_event (λ site node. events.Restart site node) (map word_of words.now) }
+{
+    let (site, node) = site_and_node(words)?;
+    Some(Form::Event(Event::Restart(site, node)))
 }
 
 /// A delivery: `S all`, `S PLACE`.

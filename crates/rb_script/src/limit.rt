@@ -1,8 +1,8 @@
 ghost use Rattle.std.specs.Prelude.{◌≡◌, ◌+◌, ◌*◌, ◌^◌, ◌≤◌, ◌==◌, [], ◌∷◌, nat_le, nat_lt, ◌&&◌, not, length, IfNone};
-ghost use Rattle.rb_text_defs.specs.Script.{default_limit, most_changes, most_columns, most_groups, most_replicas, most_row_bytes, most_tables, most_tx_changes, most_work, column_bytes, row_bytes};
+ghost use Rattle.rb_text_defs.specs.Script.{default_limit, most_changes, most_columns, most_groups, most_lines, most_replicas, most_row_bytes, most_tables, most_tx_changes, most_work, column_bytes, row_bytes};
 ghost use Rattle.rb_base.specs.declared.schema.Column.TheVariants as columns;
 ghost use Rattle.rb_text_defs.specs.declared.script.Limit.TheVariants as limits;
-ghost use Rattle.rb_script.specs.Tells.{first_passed, most_closes};
+ghost use Rattle.rb_script.specs.Tells.{first_passed};
 
 use rb_base::{Column, Schema, SiteSetup};
 use rb_text_defs::Limit;
@@ -33,7 +33,7 @@ const MOST_CHANGES: u64 = 400;
 const MOST_WORK: u64 = 4000000;
 
 /// How much work a close is, where a change is 1.
-const CLOSE_WORK: u64 = 32;
+const CLOSE_WORK: u32 = 32;
 
 /// The first limit that the shape of a site passes.
 pub(crate) fn site_limit(shape: SiteSetup) -> Option<Limit>
@@ -113,42 +113,44 @@ fn text_bytes(most: u16) -> u64
     }
 }
 
-/// The first limit that a transaction of so many changes passes, behind so many changes and closes.
-pub(crate) fn tx_limit(changes: u32, closes: u32, count: usize) -> Option<Limit>
+/// The first limit that a transaction of so many changes passes, behind so many changes, closes and restarts.
+pub(crate) fn tx_limit(changes: u32, closes: u32, restarts: u32, count: usize) -> Option<Limit>
+    requires closes { closes ≤ most_lines }
+    requires restarts { restarts ≤ most_lines }
     ensures first { result ≡ first_passed ((nat_lt most_tx_changes count, limits.TxChanges)
         ∷ (nat_lt most_changes (changes + count), limits.Changes)
-        ∷ (nat_lt most_work ((changes + 32 * closes) + count), limits.Work) ∷ []) }
+        ∷ (nat_lt most_work ((1 + restarts) * ((changes + count) + 32 * closes)), limits.Work) ∷ []) }
     ensures few { IfNone result (changes + count ≤ most_changes) }
 {
-    let count = count as u64;
-    if count > MOST_TX_CHANGES {
+    if count as u64 > MOST_TX_CHANGES {
         return Some(Limit::TxChanges);
     }
-    if u64::from(changes) + count > MOST_CHANGES {
+    let changes = u64::from(changes) + count as u64;
+    if changes > MOST_CHANGES {
         return Some(Limit::Changes);
     }
-    if work(changes, closes) + count > MOST_WORK {
+    work_limit(changes as u32, closes, restarts)
+}
+
+/// The limit of work, where so many changes, closes and restarts pass it.
+pub(crate) fn work_limit(changes: u32, closes: u32, restarts: u32) -> Option<Limit>
+    requires changes { changes ≤ most_changes }
+    requires closes { closes ≤ most_lines }
+    requires restarts { restarts ≤ most_lines }
+    ensures { result ≡ first_passed ((nat_lt most_work ((1 + restarts) * (changes + 32 * closes)), limits.Work) ∷ []) }
+{
+    if work(changes, closes, restarts) > MOST_WORK {
         return Some(Limit::Work);
     }
     None
 }
 
-/// The first limit that an event passes which is so many closes, behind so many changes and closes.
-pub(crate) fn event_limit(changes: u32, closes: u32, more: u32) -> Option<Limit>
-    requires { more ≤ 1 }
-    ensures first { result ≡ first_passed ((nat_lt most_work ((changes + 32 * closes) + 32 * more), limits.Work) ∷ []) }
-    ensures few { IfNone result (closes + more ≤ most_closes) }
+/// How much work so many changes and closes are, all of which may be sent once more at each restart.
+fn work(changes: u32, closes: u32, restarts: u32) -> u64
+    requires changes { changes ≤ most_changes }
+    requires closes { closes ≤ most_lines }
+    requires restarts { restarts ≤ most_lines }
+    ensures { result ≡ (1 + restarts) * (changes + 32 * closes) }
 {
-    if work(changes, closes) + CLOSE_WORK * u64::from(more) > MOST_WORK {
-        return Some(Limit::Work);
-    }
-    None
-}
-
-/// How much work so many changes and closes are.
-fn work(changes: u32, closes: u32) -> u64
-    ensures work { result ≡ changes + 32 * closes }
-    ensures few { result ≤ 2 ^ 40 }
-{
-    u64::from(changes) + CLOSE_WORK * u64::from(closes)
+    u64::from(1 + restarts) * u64::from(changes + CLOSE_WORK * closes)
 }

@@ -5,7 +5,7 @@ use std::test::Fail;
 const NAME_OF_32: &str = "abcdefghijklmnopqrstuvwxyz_12345";
 
 /// Short scripts that are refused, each with its first bad line and what is wrong there.
-const REFUSED: [(&[u8], u32, ScriptKind); 38] = [
+const REFUSED: [(&[u8], u32, ScriptKind); 44] = [
     (b"frob", 1, ScriptKind::Syntax),
     (b"tx A ins t 1 1", 1, ScriptKind::Setup),
     (b"deliver A 18446744073709551616", 1, ScriptKind::Syntax),
@@ -88,6 +88,16 @@ const REFUSED: [(&[u8], u32, ScriptKind); 38] = [
     (b"table t num\ntx A ins t 1 2 ;", 2, ScriptKind::Syntax),
     (b"epoch A A", 1, ScriptKind::Syntax),
     (b"frob\ntx A ins t 1 1", 1, ScriptKind::Syntax),
+    (b"fail A 1", 1, ScriptKind::Setup),
+    (b"fail A", 1, ScriptKind::Syntax),
+    (b"fail A 4294967296", 1, ScriptKind::Syntax),
+    (
+        b"site A groups 2 replicas 2 limit 1048576\nrestart A 4",
+        2,
+        ScriptKind::Setup,
+    ),
+    (b"resend A 1", 1, ScriptKind::Syntax),
+    (b"fail B 0", 1, ScriptKind::Syntax),
 ];
 
 #[test]
@@ -155,6 +165,19 @@ fn reads_events(rt: HostRuntime) -> Result<(), Fail> {
     assert!(rt; matches!(all.event, Event::DeliverAll(SiteId::A)));
     assert!(rt; matches!(inject.event, Event::Inject(SiteId::A)));
     assert!(rt; matches!(log.event, Event::Log(SiteId::A)));
+    Ok(())
+}
+
+#[test]
+fn reads_failures(rt: HostRuntime) -> Result<(), Fail> {
+    let script = parse(rt.alloc(), b"fail A 0\nrestart A 0\nresend A").or(Err("it is a script"))?;
+    let [fail, restart, resend] = script.events.as_slice() else {
+        return Err("it has three events".into());
+    };
+    assert!(rt; fail.line == 1 && restart.line == 2 && resend.line == 3);
+    assert!(rt; matches!(fail.event, Event::Fail(SiteId::A, 0)));
+    assert!(rt; matches!(restart.event, Event::Restart(SiteId::A, 0)));
+    assert!(rt; matches!(resend.event, Event::Resend(SiteId::A)));
     Ok(())
 }
 
@@ -244,6 +267,24 @@ fn counts_changes(rt: HostRuntime) -> Result<(), Fail> {
     assert_eq!(rt;
         refusal(&rt, first, b" ; ins t 1 1", 4096, b"")?,
         Some(ParseFault::Bad { line: 2, kind })
+    );
+    Ok(())
+}
+
+#[test]
+fn counts_work(rt: HostRuntime) -> Result<(), Fail> {
+    // Behind 249 parts and two closes it is (1 + 249) * 32 * 500, which is the limit itself.
+    let part = b"epoch A\nepoch A\nresend A\n";
+    assert_eq!(rt; refusal(&rt, b"", part, 249, b"epoch A\nepoch A\n")?, None);
+    let line = 750;
+    let kind = ScriptKind::Limit(Limit::Work);
+    assert_eq!(rt;
+        refusal(&rt, b"", part, 250, b"")?,
+        Some(ParseFault::Bad { line, kind })
+    );
+    assert_eq!(rt;
+        refusal(&rt, b"", part, 249, b"epoch A\nepoch A\nrestart A 0\n")?,
+        Some(ParseFault::Bad { line, kind })
     );
     Ok(())
 }

@@ -1,36 +1,42 @@
 -- What the close of an epoch leaves of a site.
-use Rattle.std.proofs.Common.{◌≡◌, ℕ, ◌+◌, ◌*◌, ◌<◌, ◌≤◌, ◌^◌, Bool, true, false, List, [], ◌∷◌, ◌++◌, length, map, take, filter, refl, sym, ap, subst, ◌∙◌, arith, lt-ltb}
+use Rattle.std.proofs.Common.{◌≡◌, ℕ, ◌+◌, ◌*◌, ◌/◌, ◌<◌, ◌≤◌, Bool, List, [], ◌∷◌, ◌++◌, length, map, take, filter, refl, sym, ap, subst, ◌∙◌, arith, lt-ltb}
 use Rattle.std.specs.Prelude.{nat_lt, sum_by, Option, None, unwrap_or}
-use Rattle.std.specs.List.{AllByRecursion, last_or}
+use Rattle.std.specs.List.{AllByRecursion, flat_map, last_or}
+use Rattle.std.proofs.Math.Path.{fun_ext}
 use Rattle.std.proofs.lemmas.List.{map-append, take-append-le}
 use Rattle.std.proofs.lemmas.List.Elements.{filter-append}
 use Rattle.std.proofs.lemmas.List.Sums.{sum_by-cons}
 use Rattle.rb_base.specs.declared.epoch.Epoch.{Epoch}
+use Rattle.rb_base.specs.declared.change.Change.{Change}
 use Rattle.rb_base.specs.declared.message.Sent.{Sent}
 use Rattle.rb_base.specs.declared.body.EpochBody.{EpochBody}
 use Rattle.rb_base.specs.declared.outcome.Outcome.TheVariants as outcomes
 use Rattle.rb_journal_defs.specs.Journal.{Entry, Closed, Journal, changes_of, closed_epochs, previous_closed}
-use Rattle.rb_journal_defs.specs.Body.{Shape, numbers_below, body_of, completed_bodies}
+use Rattle.rb_journal_defs.specs.Body.{Shape, numbers_below, changes_in, body_of, completed_bodies}
 use Rattle.rb_journal_defs.specs.Clock.{epoch_after}
 use Rattle.rb_journal_defs.proofs.Bodies.{changes_in_closed, completed_closed, if_logged}
-use Rattle.rb_journal_defs.proofs.Counts.{epoch_length}
-use Rattle.rb_message_defs.specs.Message.{home_node, done_message, dones_sent, sent_by}
+use Rattle.rb_message_defs.specs.Nodes.{needed_epoch, with_returns}
 use Rattle.rb_message_defs.proofs.Messages.{previous_stays}
 use Rattle.rb_commit.specs.Hand.{Hand}
 use Rattle.rb_store.specs.Tables.{rows_in, tables_in}
 use Rattle.rb_evbuf.specs.Buffer.{StandsFor}
 use Rattle.rb_evbuf.specs.declared.buffer.EventBuffer.{EventBuffer}
-use Rattle.rb_play_defs.specs.Step.{Progress, closed, close_step, fed_by, written_bodies, last_epoch}
+use Rattle.rb_play_defs.specs.Step.{Progress, only_closed, sent_at_close, closed, close_step, fed_by, written_bodies, last_epoch, acknowledged_epoch, needed_of, failed_in}
+use Rattle.rb_play_defs.specs.Sound.{IsSound}
 use Rattle.rb_play_defs.specs.Part.{IsLogOf}
 use Rattle.rb_play_defs.proofs.Sounds.{closed_all_below, epoch_rises, sound_close}
 use Rattle.rb_play_defs.proofs.Grows.{written_within}
-use Rattle.rb_site.specs.Nodes.{Buffered, with_close, HoldsNodes, CanCloseAll, done_of}
-use Rattle.rb_site.specs.Outbox.{HoldsSent, count_in}
-use Rattle.rb_site.specs.Site.{IsSite, buffered_by, closes_of, most_of_change, changes_in_bodies}
+use Rattle.rb_play_defs.proofs.Covering.{AllCovered, acknowledged_below, needed_at_close, covered_returns}
+use Rattle.rb_site.specs.Nodes as site
+use Rattle.rb_site.specs.Nodes.{Buffered, needed_by, with_close, HoldsNodes, CanCloseAll}
+use Rattle.rb_site.specs.Outbox.{HoldsSent, count_in, nodes_in}
+use Rattle.rb_site.specs.Site.{IsSite, buffered_by, closes_of, loss_of, most_of_change, changes_in_bodies}
 use Rattle.rb_site.specs.declared.site.Site.{Site}
 use Rattle.rb_site.specs.declared.site.LogEnd.{LogEnd}
 use Rattle.rb_site.proofs.RowLaws.{last_end}
-use Rattle.rb_site.proofs.SendLaws.{nodes_same}
+use Rattle.rb_site.proofs.ShareLaws.{needed_share}
+use Rattle.rb_site.proofs.PointLaws.{can_count, cover_at_site, cover_in_run}
+use Rattle.rb_site.proofs.AgainLaws.{sent_closing, closing_senders}
 
 -- the epoch that was closed last is the one before the next
 previous_of_next : (next o : ℕ) (j : Journal) → o < next → previous_closed next (Closed o ∷ j) ≡ o
@@ -59,26 +65,67 @@ closes_behind o j below = sym (
     ∙ ap (λ (ps : List (ℕ × ℕ)). ps ++ (o, previous_closed o (Closed o ∷ j)) ∷ []) (closes_more o j (closed_epochs j) below)
     ∙ ap (λ (p : ℕ). closes_of j ++ (o, p) ∷ []) (previous_stays o o j (omega arith)))
 
--- the owners send the Dones of the journal
-dones_are : (shape : Shape) (run : Progress) (prev : Epoch) (buckets : List ℕ) → prev.0 ≡ previous_closed run.opened run.journal →
-    map (done_of shape.buckets (buffered_by shape run) prev) buckets ≡ map (sent_by home_node) (map (λ bucket. done_message shape run.opened bucket run.journal) buckets)
-dones_are shape run prev [] is = refl
-dones_are shape run prev (b ∷ buckets) is =
-    ap (λ (p : ℕ). done_of shape.buckets (buffered_by shape run) (record { 0 = p }) b ∷ map (done_of shape.buckets (buffered_by shape run) prev) buckets) is
-    ∙ ap (λ (ss : List Sent). sent_by home_node (done_message shape run.opened b run.journal) ∷ ss) (dones_are shape run prev buckets is)
+-- the open epoch can close
+pub can_close : (shape : Shape) (gci : Bool) (site : Site) (file : List ℕ) (run : Progress) (next : ℕ) → IsSite shape site file run → run.lost ≡ None → next ≡ epoch_after gci site.clock.opened → CanCloseAll site.nodes next
+can_close shape gci site file run next held none is =
+    let above : run.opened < epoch_after gci run.opened = epoch_rises gci run.opened in
+    let same : next ≡ epoch_after gci run.opened = is ∙ ap (λ (hand : Hand). epoch_after gci hand.opened) held.clock in
+    (shape.buckets, buffered_by shape run, held.nodes, held.covered none, can_count shape site file run held, omega arith)
 
--- the next epoch has a number
-pub epoch_fits : (gci : Bool) (epoch : ℕ) → epoch + 2 ^ 32 < 2 ^ 64 → epoch_after gci epoch < 2 ^ 64
-epoch_fits false epoch room = omega arith
-epoch_fits true epoch room = omega arith
+-- what is written stays
+written_stays : (shape : Shape) (gci : Bool) (run : Progress) → IsSound shape run → written_bodies shape (closed shape gci run) ≡ written_bodies shape run
+written_stays shape gci run sound =
+    ap (take run.written) (completed_closed shape run.opened run.journal)
+    ∙ take-append-le run.written (completed_bodies shape run.journal) (if_logged (body_of shape run.opened run.journal)) (written_within shape run sound)
 
--- the changes of the open epoch can be counted
-pub can_close : (shape : Shape) (site : Site) (file : List ℕ) (run : Progress) → IsSite shape site file run → CanCloseAll site.nodes
-can_close shape site file run held =
-    let count = epoch_length shape.site run.opened run.journal in
-    let made = held.made in
-    let few = held.few in
-    (shape.buckets, buffered_by shape run, held.nodes, omega arith)
+-- the nodes behind the close, before the buckets return
+pub buffered_behind : (shape : Shape) (gci : Bool) (run : Progress) (prev next : ℕ) → IsSound shape run → prev ≡ previous_closed run.opened run.journal → next ≡ epoch_after gci run.opened →
+    site.only_closed prev next (buffered_by shape run) ≡ buffered_by shape (only_closed gci run)
+buffered_behind shape gci run prev next sound before after =
+    let o = run.opened in
+    ap (λ (n : ℕ). record { opened = n; acknowledged = acknowledged_epoch shape run; changes = λ e. changes_in shape.site e run.journal; closes = closes_of run.journal ++ (o, prev) ∷ []; members = run.nodes }) after
+    ∙ ap (λ (bs : List EpochBody). record { opened = epoch_after gci o; acknowledged = last_epoch bs; changes = λ e. changes_in shape.site e run.journal; closes = closes_of run.journal ++ (o, prev) ∷ []; members = run.nodes }) (sym (written_stays shape gci run sound))
+    ∙ ap (λ (f : ℕ → List Change). record { opened = epoch_after gci o; acknowledged = acknowledged_epoch shape (only_closed gci run); changes = f; closes = closes_of run.journal ++ (o, prev) ∷ []; members = run.nodes })
+    (fun_ext (λ e. sym (changes_in_closed shape.site e o run.journal)))
+    ∙ ap (λ (cs : List (ℕ × ℕ)). record { opened = epoch_after gci o; acknowledged = acknowledged_epoch shape (only_closed gci run); changes = λ e. changes_in shape.site e (Closed o ∷ run.journal); closes = cs; members = run.nodes })
+    (ap (λ (p : ℕ). closes_of run.journal ++ (o, p) ∷ []) before ∙ closes_behind o run.journal (closed_all_below o run.journal sound.order))
+
+-- and behind their return
+buffered_closed : (shape : Shape) (gci : Bool) (run : Progress) (prev next : ℕ) → site.only_closed prev next (buffered_by shape run) ≡ buffered_by shape (only_closed gci run) →
+    with_close prev next (buffered_by shape run) ≡ buffered_by shape (closed shape gci run)
+buffered_closed shape gci run prev next behind =
+    let after = only_closed gci run in
+    ap (λ (now : Buffered). record now { members = with_returns (needed_by now) run.nodes }) behind
+    ∙ ap (λ (n : ℕ). record (buffered_by shape after) { members = with_returns n run.nodes }) (needed_share shape after 0)
+
+-- the owners cover behind the close
+covered_closed : (shape : Shape) (gci : Bool) (run : Progress) → IsSound shape run → AllCovered shape.buckets (needed_of shape run) run.nodes → AllCovered shape.buckets (needed_of shape (closed shape gci run)) (closed shape gci run).nodes
+covered_closed shape gci run sound all =
+    let after = only_closed gci run in
+    let needed : needed_of shape after ≡ needed_of shape run =
+    ap (λ (bs : List EpochBody). needed_epoch (last_epoch bs) (epoch_after gci run.opened) (Closed run.opened ∷ run.journal)) (written_stays shape gci run sound)
+    ∙ needed_at_close (acknowledged_epoch shape run) run.opened (epoch_after gci run.opened) run.journal (acknowledged_below shape run sound) in
+    subst (λ (n : ℕ). AllCovered shape.buckets n (with_returns n run.nodes)) (sym needed) (covered_returns shape.buckets (needed_of shape run) run.nodes sound.nodes.owners all)
+
+-- what the nodes send at a close is what the run sends
+pub closing_are : (shape : Shape) (gci : Bool) (old : Site) (file : List ℕ) (run : Progress) (prev next : Epoch) (messages : List Sent) → IsSite shape old file run →
+    prev.0 ≡ old.clock.previous → next.0 ≡ epoch_after gci old.clock.opened →
+    ((b : ℕ) (s : Buffered) → HoldsNodes old.nodes b s → messages ≡ site.sent_at_close b s prev.0 next.0 (length old.nodes.groups.items)) →
+    messages ≡ flat_map (sent_at_close shape run (only_closed gci run)) (numbers_below (shape.buckets / run.nodes.replicas))
+closing_are shape gci old file run prev next messages held is_prev is_next sends =
+    let before : prev.0 ≡ previous_closed run.opened run.journal = is_prev ∙ ap (λ (h : Hand). h.previous) held.clock in
+    let after : next.0 ≡ epoch_after gci run.opened = is_next ∙ ap (λ (h : Hand). epoch_after gci h.opened) held.clock in
+    sends shape.buckets (buffered_by shape run) held.nodes
+    ∙ sent_closing shape gci run old.nodes prev.0 next.0 held.nodes before (buffered_behind shape gci run prev.0 next.0 held.sound before after)
+
+-- and who sends it is one of the nodes
+pub closing_from : (shape : Shape) (gci : Bool) (old : Site) (file : List ℕ) (run : Progress) (prev next : Epoch) (messages : List Sent) → IsSite shape old file run →
+    prev.0 ≡ old.clock.previous → next.0 ≡ epoch_after gci old.clock.opened →
+    ((b : ℕ) (s : Buffered) → HoldsNodes old.nodes b s → messages ≡ site.sent_at_close b s prev.0 next.0 (length old.nodes.groups.items)) →
+    AllByRecursion (λ message. message.sender < nodes_in old.outbox) messages
+closing_from shape gci old file run prev next messages held is_prev is_next sends =
+    subst (λ (n : ℕ). AllByRecursion (λ (message : Sent). message.sender < n) messages) (sym held.senders)
+    (subst (AllByRecursion (λ (message : Sent). message.sender < shape.buckets)) (sym (closing_are shape gci old file run prev next messages held is_prev is_next sends)) (closing_senders shape gci run old.nodes held.nodes))
 
 -- a site whose epoch closed, however its parts are made
 pub site_closed : (shape : Shape) (gci : Bool) (old new : Site) (file : List ℕ) (run : Progress) (prev next : Epoch) (messages : List Sent) → IsSite shape old file run →
@@ -86,19 +133,16 @@ pub site_closed : (shape : Shape) (gci : Bool) (old new : Site) (file : List ℕ
     new.id ≡ old.id → new.mapped ≡ old.mapped → new.clock ≡ record { opened = epoch_after gci old.clock.opened; previous = old.clock.opened; drawn = old.clock.drawn } →
     new.tables ≡ old.tables →
     ((b : ℕ) (s : Buffered) → HoldsNodes old.nodes b s → HoldsNodes new.nodes b (with_close prev.0 next.0 s)) →
-    ((b : ℕ) (s : Buffered) → HoldsNodes old.nodes b s → messages ≡ map (done_of b s prev) (numbers_below b)) →
-    ((ss : List Sent) (ds : List ℕ) → HoldsSent old.outbox ss ds → HoldsSent new.outbox (ss ++ messages) ds) →
-    new.events ≡ old.events → new.log ≡ old.log → new.made ≡ old.made → IsSite shape new file (closed shape gci run)
-unfolding dones_sent
-site_closed shape gci old new file run prev next messages held is_prev is_next id mapped clock tables nodes sends outbox events log made =
+    ((b : ℕ) (s : Buffered) → HoldsNodes old.nodes b s → messages ≡ site.sent_at_close b s prev.0 next.0 (length old.nodes.groups.items)) →
+    ((ss : List Sent) (ds : List ℕ) (fa : ℕ → ℕ) → HoldsSent old.outbox ss ds fa → HoldsSent new.outbox (ss ++ messages) ds fa) →
+    nodes_in new.outbox ≡ nodes_in old.outbox →
+    new.events ≡ old.events → new.log ≡ old.log → new.lost ≡ old.lost → new.made ≡ old.made → IsSite shape new file (closed shape gci run)
+site_closed shape gci old new file run prev next messages held is_prev is_next id mapped clock tables nodes sends outbox senders events log lost made =
     let o = run.opened in
-    let below = closed_all_below o run.journal held.sound.order in
-    let opened : old.clock.opened ≡ o = ap (λ (h : Hand). h.opened) held.clock in
-    let before : prev.0 ≡ previous_closed o run.journal = is_prev ∙ ap (λ (h : Hand). h.previous) held.clock in
-    let after : next.0 ≡ epoch_after gci o = is_next ∙ ap (epoch_after gci) opened in
-    let bodies : written_bodies shape (closed shape gci run) ≡ written_bodies shape run =
-    ap (take run.written) (completed_closed shape o run.journal) ∙ take-append-le run.written (completed_bodies shape run.journal) (if_logged (body_of shape o run.journal)) (written_within shape run held.sound) in
-    let all : messages ≡ map (sent_by home_node) (dones_sent shape o run.journal) = sends shape.buckets (buffered_by shape run) held.nodes ∙ dones_are shape run prev (numbers_below shape.buckets) before in
+    let before : prev.0 ≡ previous_closed run.opened run.journal = is_prev ∙ ap (λ (h : Hand). h.previous) held.clock in
+    let after : next.0 ≡ epoch_after gci run.opened = is_next ∙ ap (λ (h : Hand). epoch_after gci h.opened) held.clock in
+    let bodies = written_stays shape gci run held.sound in
+    let all = closing_are shape gci old file run prev next messages held is_prev is_next sends in
     record {
       declared = held.declared;
       sound = sound_close shape gci run held.sound;
@@ -110,11 +154,11 @@ site_closed shape gci old new file run prev next messages held is_prev is_next i
           ∙ ap (λ (p : ℕ). record { opened = epoch_after gci o; previous = p; drawn = run.drawn }) (sym (previous_of_next (epoch_after gci o) o run.journal (epoch_rises gci o)));
       rows = λ t k. ap (λ (ts : _). rows_in ts t k) tables ∙ held.rows t k;
       count = ap tables_in tables ∙ held.count;
-      nodes = nodes_same new.nodes shape.buckets (with_close prev.0 next.0 (buffered_by shape run)) (buffered_by shape (closed shape gci run)) after
-          (ap (λ (p : ℕ). closes_of run.journal ++ (o, p) ∷ []) before ∙ closes_behind o run.journal below)
-          (λ e. sym (changes_in_closed shape.site e o run.journal))
-          (nodes shape.buckets (buffered_by shape run) held.nodes);
-      outbox = subst (λ (ms : List Sent). HoldsSent new.outbox (run.sent ++ ms) run.delivered) all (outbox run.sent run.delivered held.outbox);
+      nodes = subst (HoldsNodes new.nodes shape.buckets) (buffered_closed shape gci run prev.0 next.0 (buffered_behind shape gci run prev.0 next.0 held.sound before after)) (nodes shape.buckets (buffered_by shape run) held.nodes);
+      covered = λ none. cover_at_site shape (closed shape gci run) (covered_closed shape gci run held.sound (cover_in_run shape run (held.covered none)));
+      lost = ap loss_of lost ∙ held.lost;
+      outbox = subst (λ (ms : List Sent). HoldsSent new.outbox (run.sent ++ ms) run.delivered (failed_in run)) all (outbox run.sent run.delivered (failed_in run) held.outbox);
+      senders = senders ∙ held.senders;
       events = subst (λ (b : EventBuffer). StandsFor b (fed_by shape run)) (sym events) held.events;
       written = ap (λ (l : LogEnd). l.written) log ∙ held.written;
       last = ap (λ (l : LogEnd). l.last.0) log ∙ held.last ∙ ap last_epoch (sym bodies);

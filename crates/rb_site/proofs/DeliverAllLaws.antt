@@ -1,6 +1,6 @@
 -- The delivery of all messages, one after the other.
 use Rattle.std.proofs.Common.{◌≡◌, ℕ, zero, suc, ◌+◌, ◌<◌, ◌≤◌, Bool, cond, List, [], ◌∷◌, length, refl, sym, ap, subst, ◌∙◌, arith, length-append}
-use Rattle.std.specs.Prelude.{Some, None, count_by, not, ◌==◌}
+use Rattle.std.specs.Prelude.{Some, None, count_by, not, ◌==◌, ◌&&◌, Option}
 use Rattle.std.specs.List.{slice_get, list_any}
 use Rattle.std.proofs.lemmas.List.Sums.{sum_by-cons}
 use Rattle.rb_base.specs.declared.message.Sent.{Sent}
@@ -11,13 +11,14 @@ use Rattle.rb_journal_defs.specs.Transaction.{first_of}
 use Rattle.rb_journal_defs.proofs.Counts.{filter_length}
 use Rattle.rb_message_defs.specs.declared.answers.Received.{Received}
 use Rattle.rb_message_defs.specs.declared.answers.Received.TheVariants as answers
-use Rattle.rb_play_defs.specs.Step.{Progress, Stepped, answer_outcome, deliver_step, undelivered, all_delivered, delivery_outcomes, delivery_of_all, deliver_all_step, is_kept, is_known, is_old}
-use Rattle.rb_site.specs.Outbox.{HoldsSent, count_in, waiting_places}
+use Rattle.rb_message_defs.specs.Nodes.{is_gone, waiting_places}
+use Rattle.rb_play_defs.specs.Step.{Progress, Stepped, answer_outcome, deliver_step, undelivered, all_delivered, delivery_outcomes, delivery_of_all, deliver_all_step, is_kept, is_known, is_old, failed_in}
+use Rattle.rb_site.specs.Outbox.{HoldsSent, count_in}
 use Rattle.rb_site.specs.Tally.{sum_of, with_answer}
 use Rattle.rb_site.specs.Site.{IsSite}
 use Rattle.rb_site.specs.declared.site.Site.{Site}
 use Rattle.rb_site.specs.declared.tally.Tally.{Tally}
-use Rattle.rb_site.proofs.OutboxLaws.{waiting_rest, waiting_within}
+use Rattle.rb_site.proofs.OutboxLaws.{waiting_rest, waiting_within, still_waiting, still_waiting_is}
 use Rattle.rb_site.proofs.DeliverLaws.{deliver_there}
 
 -- what the answers to the places that wait add to those that were counted
@@ -45,7 +46,53 @@ way_begins shape file run site held = record {
   held = held;
   goal = refl;
   counted = record { kept = omega arith; known = omega arith; old = omega arith };
-  few = (let f = filter_length (λ place. not (list_any (λ delivered. delivered == place) run.delivered)) (numbers_below (length run.sent)) in let n = numbers_length (length run.sent) in omega arith);
+  few = (let f = filter_length (λ place. not (list_any (λ delivered. delivered == place) run.delivered) && not (is_gone (failed_in run) run.sent place)) (numbers_below (length run.sent)) in let n = numbers_length (length run.sent) in omega arith);
+}
+
+-- a site whose outbox was looked at stands for the same
+pub site_looked : (shape : Shape) (old new : Site) (file : List ℕ) (run : Progress) → IsSite shape old file run →
+    ((ss : List Sent) (ds : List ℕ) (failed_at : ℕ → ℕ) → HoldsSent old.outbox ss ds failed_at → HoldsSent new.outbox ss ds failed_at) →
+    new.outbox.failed ≡ old.outbox.failed → new ≡ record old { outbox = new.outbox } → IsSite shape new file run
+site_looked shape old new file run held outbox failed rest =
+    subst (λ (s : Site). IsSite shape s file run) (sym rest) (record {
+      declared = held.declared;
+      sound = held.sound;
+      fits = held.fits;
+      id = held.id;
+      mapped = held.mapped;
+      clock = held.clock;
+      rows = held.rows;
+      count = held.count;
+      nodes = held.nodes;
+      covered = held.covered;
+      lost = held.lost;
+      outbox = outbox run.sent run.delivered (failed_in run) held.outbox;
+      senders = rw failed held.senders;
+      events = held.events;
+      written = held.written;
+      last = held.last;
+      log = held.log;
+      length_is = held.length_is;
+      made = held.made;
+      few = held.few;
+      size = held.size;
+    })
+
+-- what an outbox answers is the first place that waits
+pub first_waits : (shape : Shape) (file : List ℕ) (run : Progress) (site : Site) (tally : Tally) (next : Option ℕ) (way : IsOnTheWay shape file run site tally) →
+    ((ss : List Sent) (ds : List ℕ) (failed_at : ℕ → ℕ) → HoldsSent site.outbox ss ds failed_at → next ≡ first_of (waiting_places failed_at ss ds)) → next ≡ first_of (undelivered way.now)
+first_waits shape file run site tally next way first = first way.now.sent way.now.delivered (failed_in way.now) way.held.outbox
+
+-- and so does what is on its way
+abbrev pub way_looked : (shape : Shape) (file : List ℕ) (run : Progress) (old new : Site) (tally : Tally) → IsOnTheWay shape file run old tally →
+    ((ss : List Sent) (ds : List ℕ) (failed_at : ℕ → ℕ) → HoldsSent old.outbox ss ds failed_at → HoldsSent new.outbox ss ds failed_at) →
+    new.outbox.failed ≡ old.outbox.failed → new ≡ record old { outbox = new.outbox } → IsOnTheWay shape file run new tally
+way_looked shape file run old new tally way outbox failed rest = record {
+  now = way.now;
+  held = site_looked shape old new file way.now way.held outbox failed rest;
+  goal = way.goal;
+  counted = way.counted;
+  few = way.few;
 }
 
 -- the first of them
@@ -60,8 +107,8 @@ get_within (x ∷ xs) (suc k) l = get_within xs k (omega arith)
 
 -- what is on its way has a first place, where one waits
 pub next_place : (shape : Shape) (file : List ℕ) (run : Progress) (site : Site) (tally : Tally) (place : ℕ) (way : IsOnTheWay shape file run site tally) →
-    ((ss : List Sent) (ds : List ℕ) → HoldsSent site.outbox ss ds → Some place ≡ first_of (waiting_places (length ss) ds)) → (rest : List ℕ) × (undelivered way.now ≡ place ∷ rest)
-next_place shape file run site tally place way first = first_is (undelivered way.now) place (sym (first way.now.sent way.now.delivered way.held.outbox))
+    Some place ≡ first_of (undelivered way.now) → (rest : List ℕ) × (undelivered way.now ≡ place ∷ rest)
+next_place shape file run site tally place way first = first_is (undelivered way.now) place (sym first)
 
 counts_more : (test : Outcome → Bool) (before total n : ℕ) (outcome : Outcome) (outcomes : List Outcome) → before + count_by test (outcome ∷ outcomes) ≡ total → n ≡ before + cond (test outcome) 1 0 → n + count_by test outcomes ≡ total
 counts_more test before total n outcome outcomes whole is =
@@ -89,15 +136,15 @@ sum_more answers.Old tally = omega arith
 
 -- the place is one of those that were sent, and its answer can be counted
 pub place_within : (shape : Shape) (file : List ℕ) (run : Progress) (site : Site) (tally : Tally) (place : ℕ) (way : IsOnTheWay shape file run site tally) →
-    ((ss : List Sent) (ds : List ℕ) → HoldsSent site.outbox ss ds → Some place ≡ first_of (waiting_places (length ss) ds)) → place < count_in site.outbox
+    Some place ≡ first_of (undelivered way.now) → place < count_in site.outbox
 place_within shape file run site tally place way first =
     let next = next_place shape file run site tally place way first in
-    let l : place < length way.now.sent = waiting_within (length way.now.sent) place way.now.delivered next.0 next.1 in
+    let l : place < length way.now.sent = waiting_within (failed_in way.now) way.now.sent place way.now.delivered next.0 next.1 in
     let s : count_in site.outbox ≡ length way.now.sent = ap length way.held.outbox.sent_is in
     omega arith
 
 pub sum_below : (shape : Shape) (file : List ℕ) (run : Progress) (site : Site) (tally : Tally) (place : ℕ) (way : IsOnTheWay shape file run site tally) →
-    ((ss : List Sent) (ds : List ℕ) → HoldsSent site.outbox ss ds → Some place ≡ first_of (waiting_places (length ss) ds)) → sum_of tally + 1 ≤ count_in site.outbox
+    Some place ≡ first_of (undelivered way.now) → sum_of tally + 1 ≤ count_in site.outbox
 sum_below shape file run site tally place way first =
     let next = next_place shape file run site tally place way first in
     let one : length (undelivered way.now) ≡ suc (length next.0) = ap length next.1 in
@@ -107,21 +154,20 @@ sum_below shape file run site tally place way first =
 
 -- one place more is delivered
 pub way_more : (shape : Shape) (file : List ℕ) (run : Progress) (old new : Site) (tally : Tally) (place : ℕ) (answer : Received) (way : IsOnTheWay shape file run old tally) →
-    ((ss : List Sent) (ds : List ℕ) → HoldsSent old.outbox ss ds → Some place ≡ first_of (waiting_places (length ss) ds)) →
+    Some place ≡ first_of (undelivered way.now) →
     ((s : Shape) (f : List ℕ) (r : Progress) → IsSite s old f r → IsSite s new f (deliver_step s place r).run × (answer_outcome answer ≡ (deliver_step s place r).outcome)) →
     IsOnTheWay shape file run new (with_answer answer tally)
 way_more shape file run old new tally place answer way first step =
     let now = way.now in
     let (rest, waits) = next_place shape file run old tally place way first in
-    let within : place < length now.sent = waiting_within (length now.sent) place now.delivered rest waits in
+    let within : place < length now.sent = waiting_within (failed_in now) now.sent place now.delivered rest waits in
     let (at, there) = get_within now.sent place within in
     let stepped = deliver_there shape now place at there in
     let (held, answered) = step shape file now way.held in
     let after = (deliver_step shape place now).run in
     let sent : after.sent ≡ now.sent = ap (λ (s : Stepped). s.run.sent) stepped in
-    let delivered : after.delivered ≡ place ∷ now.delivered = ap (λ (s : Stepped). s.run.delivered) stepped in
     let later : undelivered after ≡ rest =
-    ap (λ (ss : List Sent). waiting_places (length ss) after.delivered) sent ∙ ap (waiting_places (length now.sent)) delivered ∙ waiting_rest (length now.sent) place now.delivered rest waits in
+    ap (λ (s : Stepped). undelivered s.run) stepped ∙ waiting_rest (failed_in now) now.sent place now.delivered rest waits in
     let outcomes : delivery_outcomes shape (undelivered now) now ≡ answer_outcome answer ∷ delivery_outcomes shape (undelivered after) after =
     ap (λ (ps : List ℕ). delivery_outcomes shape ps now) waits
     ∙ ap (λ (o : Outcome). o ∷ delivery_outcomes shape rest after) (sym answered)
@@ -140,29 +186,38 @@ way_more shape file run old new tally place answer way first step =
 
 -- fewer wait then
 pub way_smaller : (shape : Shape) (file : List ℕ) (run : Progress) (old new : Site) (tally : Tally) (place : ℕ) (answer : Received) (way : IsOnTheWay shape file run old tally) →
-    ((ss : List Sent) (ds : List ℕ) → HoldsSent old.outbox ss ds → Some place ≡ first_of (waiting_places (length ss) ds)) →
+    Some place ≡ first_of (undelivered way.now) →
     ((s : Shape) (f : List ℕ) (r : Progress) → IsSite s old f r → IsSite s new f (deliver_step s place r).run × (answer_outcome answer ≡ (deliver_step s place r).outcome)) →
-    length new.outbox.waiting.keys < length old.outbox.waiting.keys
+    still_waiting new.outbox < still_waiting old.outbox
 way_smaller shape file run old new tally place answer way first step =
     let now = way.now in
     let (rest, waits) = next_place shape file run old tally place way first in
-    let within : place < length now.sent = waiting_within (length now.sent) place now.delivered rest waits in
+    let within : place < length now.sent = waiting_within (failed_in now) now.sent place now.delivered rest waits in
     let (at, there) = get_within now.sent place within in
     let stepped = deliver_there shape now place at there in
     let (held, answered) = step shape file now way.held in
     let later : undelivered (deliver_step shape place now).run ≡ rest =
-    ap (λ (s : Stepped). undelivered s.run) stepped ∙ waiting_rest (length now.sent) place now.delivered rest waits in
-    let before : length old.outbox.waiting.keys ≡ suc (length rest) = ap length (way.held.outbox.waiting ∙ waits) in
-    let after : length new.outbox.waiting.keys ≡ length rest = ap length (held.outbox.waiting ∙ later) in
+    ap (λ (s : Stepped). undelivered s.run) stepped ∙ waiting_rest (failed_in now) now.sent place now.delivered rest waits in
+    let before : still_waiting old.outbox ≡ suc (length rest) = still_waiting_is old.outbox now.sent now.delivered (failed_in now) way.held.outbox ∙ ap length waits in
+    let run_after : Progress = (deliver_step shape place now).run in
+    let after : still_waiting new.outbox ≡ length rest = still_waiting_is new.outbox run_after.sent run_after.delivered (failed_in run_after) held.outbox ∙ ap length later in
     omega arith
+
+-- as many wait when the outbox was looked at
+pub waits_same : (shape : Shape) (file : List ℕ) (run : Progress) (old new : Site) (tally : Tally) (way : IsOnTheWay shape file run old tally) (looked : IsOnTheWay shape file run new tally) → looked.now ≡ way.now →
+    still_waiting new.outbox ≡ still_waiting old.outbox
+waits_same shape file run old new tally way looked same =
+    still_waiting_is new.outbox looked.now.sent looked.now.delivered (failed_in looked.now) looked.held.outbox
+    ∙ ap (λ (p : Progress). length (undelivered p)) same
+    ∙ sym (still_waiting_is old.outbox way.now.sent way.now.delivered (failed_in way.now) way.held.outbox)
 
 -- none waits any more
 pub way_ends : (shape : Shape) (file : List ℕ) (run : Progress) (site : Site) (tally : Tally) (way : IsOnTheWay shape file run site tally) →
-    ((ss : List Sent) (ds : List ℕ) → HoldsSent site.outbox ss ds → None ≡ first_of (waiting_places (length ss) ds)) →
+    None ≡ first_of (undelivered way.now) →
     IsSite shape site file (deliver_all_step shape run).run × (outcomes.Delivered tally.kept tally.known tally.outdated ≡ (deliver_all_step shape run).outcome)
 unfolding deliver_all_step delivery_of_all
 way_ends shape file run site tally way first =
-    let none : undelivered way.now ≡ [] = no_first (undelivered way.now) (sym (first way.now.sent way.now.delivered way.held.outbox)) in
+    let none : undelivered way.now ≡ [] = no_first (undelivered way.now) (sym first) in
     let here : way.now ≡ all_delivered shape (undelivered run) run = sym (ap (λ (ps : List ℕ). all_delivered shape ps way.now) none) ∙ way.goal in
     let kept : tally.kept ≡ count_by is_kept (delivery_outcomes shape (undelivered run) run) = counted_all is_kept tally.kept _ none way.counted.kept in
     let known : tally.known ≡ count_by is_known (delivery_outcomes shape (undelivered run) run) = counted_all is_known tally.known _ none way.counted.known in

@@ -11,10 +11,10 @@ use Rattle.rb_message_defs.specs.declared.answers.Received.{Received}
 use Rattle.rb_message_defs.specs.Message.{bucket_in}
 use Rattle.rb_message_defs.specs.Received.{Fed, answer_to}
 use Rattle.rb_evbuf.specs.Buffer.{StandsFor, buckets_of}
-use Rattle.rb_play_defs.specs.Step.{Progress, Stepped, unchanged, fed_by, delivered_message, answer_outcome, deliver_step}
+use Rattle.rb_play_defs.specs.Step.{Progress, Stepped, unchanged, fed_by, delivered_message, answer_outcome, deliver_step, failed_in}
 use Rattle.rb_play_defs.specs.Sound.{IsOwn}
 use Rattle.rb_play_defs.proofs.Takes.{of_sent, sound_delivered}
-use Rattle.rb_site.specs.Outbox.{HoldsSent, count_in}
+use Rattle.rb_site.specs.Outbox.{HoldsSent, count_in, nodes_in}
 use Rattle.rb_site.specs.Site.{IsSite}
 use Rattle.rb_site.specs.declared.site.Site.{Site}
 
@@ -28,9 +28,9 @@ some_message sent place message is = go (slice_get sent place) refl
 
 -- a message that was sent is of a bucket of the event buffer
 pub bucket_fits : (shape : Shape) (site : Site) (file : List ℕ) (run : Progress) (place : ℕ) (message : Message) → IsSite shape site file run →
-    ((ss : List Sent) (ds : List ℕ) → HoldsSent site.outbox ss ds → option_map (λ sent. sent.message) (slice_get ss place) ≡ Some message) → bucket_in message < buckets_of site.events
+    ((ss : List Sent) (ds : List ℕ) (failed_at : ℕ → ℕ) → HoldsSent site.outbox ss ds failed_at → option_map (λ sent. sent.message) (slice_get ss place) ≡ Some message) → bucket_in message < buckets_of site.events
 bucket_fits shape site file run place message held is =
-    let (at, there, same) = some_message run.sent place message (is run.sent run.delivered held.outbox) in
+    let (at, there, same) = some_message run.sent place message (is run.sent run.delivered (failed_in run) held.outbox) in
     let own = of_sent (λ (s : Sent). IsOwn shape run.journal s.message) run.sent place at held.sound.sent there in
     let b : bucket_in at.message < shape.buckets = own.0 in
     let m : bucket_in at.message ≡ bucket_in message = ap bucket_in same in
@@ -44,14 +44,15 @@ deliver_there shape run place at there = ap (λ (x : Option Sent). option_map_or
 
 -- a site that a message reached, however its parts are made
 pub site_delivered : (shape : Shape) (old new : Site) (file : List ℕ) (run : Progress) (place : ℕ) (message : Message) (answer : Received) → IsSite shape old file run →
-    ((ss : List Sent) (ds : List ℕ) → HoldsSent old.outbox ss ds → option_map (λ sent. sent.message) (slice_get ss place) ≡ Some message) →
-    ((ss : List Sent) (ds : List ℕ) → HoldsSent old.outbox ss ds → HoldsSent new.outbox ss (place ∷ ds)) →
+    ((ss : List Sent) (ds : List ℕ) (failed_at : ℕ → ℕ) → HoldsSent old.outbox ss ds failed_at → option_map (λ sent. sent.message) (slice_get ss place) ≡ Some message) →
+    ((ss : List Sent) (ds : List ℕ) (failed_at : ℕ → ℕ) → HoldsSent old.outbox ss ds failed_at → HoldsSent new.outbox ss (place ∷ ds) failed_at) →
+    nodes_in new.outbox ≡ nodes_in old.outbox →
     ((fed : Fed) → StandsFor old.events fed → answer ≡ answer_to fed message) →
     ((fed : Fed) → StandsFor old.events fed → StandsFor new.events (record fed { received = message ∷ fed.received })) →
     new ≡ record old { outbox = new.outbox; events = new.events } →
     IsSite shape new file (deliver_step shape place run).run × (answer_outcome answer ≡ (deliver_step shape place run).outcome)
-site_delivered shape old new file run place message answer held is outbox answers events rest =
-    let (at, there, same) = some_message run.sent place message (is run.sent run.delivered held.outbox) in
+site_delivered shape old new file run place message answer held is outbox senders answers events rest =
+    let (at, there, same) = some_message run.sent place message (is run.sent run.delivered (failed_in run) held.outbox) in
     let step = deliver_there shape run place at there in
     let m : message ≡ at.message = sym same in
     let after : IsSite shape (record old { outbox = new.outbox; events = new.events }) file (delivered_message place at.message run) = record {
@@ -64,7 +65,10 @@ site_delivered shape old new file run place message answer held is outbox answer
       rows = held.rows;
       count = held.count;
       nodes = held.nodes;
-      outbox = outbox run.sent run.delivered held.outbox;
+      covered = held.covered;
+      lost = held.lost;
+      outbox = outbox run.sent run.delivered (failed_in run) held.outbox;
+      senders = senders ∙ held.senders;
       events = subst (λ (m : Message). StandsFor new.events (record { buckets = shape.buckets; last = run.last; received = m ∷ run.received })) m (events (fed_by shape run) held.events);
       written = held.written;
       last = held.last;

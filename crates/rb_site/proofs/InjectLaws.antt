@@ -25,13 +25,13 @@ use Rattle.rb_play_defs.specs.Sound.{IsSound}
 use Rattle.rb_text_defs.specs.Script.{most_changes}
 use Rattle.rb_play_defs.proofs.Takes.{fed_from, sound_taken, written_is, written_more}
 use Rattle.rb_site.specs.Body.{body_of_assembled}
-use Rattle.rb_site.specs.Site.{IsSite, most_of_change, changes_in_bodies, changes_made}
+use Rattle.rb_site.specs.Site.{IsSiteAt, most_of_change, changes_in_bodies, changes_made}
 use Rattle.rb_site.specs.declared.site.Site.{Site}
 use Rattle.rb_site.proofs.BodyLaws.{body_is}
 use Rattle.rb_site.proofs.BodyFits.{few_bytes, at_least_one}
 
 -- what the event buffer puts together
-pub next_is : (shape : Shape) (site : Site) (file : List ℕ) (run : Progress) (result : Option Assembled) → IsSite shape site file run →
+pub next_is : {acknowledged : ℕ} → (shape : Shape) (site : Site) (file : List ℕ) (run : Progress) (result : Option Assembled) → IsSiteAt acknowledged shape site file run →
     ((fed : Fed) → StandsFor site.events fed → AreChained fed.received → result ≡ assembled_of fed) → result ≡ option_map (journal_assembly shape run.last run.journal) (first_of (takeable shape run))
 next_is shape site file run result held answers =
     answers (fed_by shape run) held.events (are_chained shape run.opened run.journal run.received held.sound.order held.sound.received)
@@ -48,7 +48,7 @@ one_taken f [] assembled same = absurd (let g : Some assembled ≡ None = same i
 one_taken f (e ∷ epochs) assembled same = (e, epochs, refl, (let g : Some assembled ≡ Some (f e) = same in cc))
 
 -- the event buffer behind it
-pub buffer_stays : (shape : Shape) (site : Site) (file : List ℕ) (run : Progress) (new : EventBuffer) → IsSite shape site file run →
+pub buffer_stays : {acknowledged : ℕ} → (shape : Shape) (site : Site) (file : List ℕ) (run : Progress) (new : EventBuffer) → IsSiteAt acknowledged shape site file run →
     ((fed : Fed) → StandsFor site.events fed → AreChained fed.received → None ≡ assembled_of fed) →
     ((fed : Fed) → StandsFor site.events fed → AreChained fed.received → StandsFor new (taken_from fed)) → StandsFor new (fed_by shape run)
 buffer_stays shape site file run new held answers taken =
@@ -56,7 +56,7 @@ buffer_stays shape site file run new held answers taken =
     let chained = are_chained shape run.opened run.journal run.received held.sound.order held.sound.received in
     subst (λ (o : Option Assembled). StandsFor new (record fed { last = option_map_or (λ assembled. assembled.epoch.0) o fed.last })) (sym (answers fed held.events chained)) (taken fed held.events chained)
 
-pub buffer_taken : (shape : Shape) (site : Site) (file : List ℕ) (run : Progress) (new : EventBuffer) (assembled : Assembled) (e : ℕ) → IsSite shape site file run → assembled.epoch.0 ≡ e →
+pub buffer_taken : {acknowledged : ℕ} → (shape : Shape) (site : Site) (file : List ℕ) (run : Progress) (new : EventBuffer) (assembled : Assembled) (e : ℕ) → IsSiteAt acknowledged shape site file run → assembled.epoch.0 ≡ e →
     ((fed : Fed) → StandsFor site.events fed → AreChained fed.received → Some assembled ≡ assembled_of fed) →
     ((fed : Fed) → StandsFor site.events fed → AreChained fed.received → StandsFor new (taken_from fed)) → StandsFor new (fed_by shape (with_taken shape run e))
 buffer_taken shape site file run new assembled e held is answers taken =
@@ -122,7 +122,7 @@ pub bodies_without : (shape : Shape) (run : Progress) (e : ℕ) (rest : List ℕ
 bodies_without shape run e rest sound front logged = written_more shape run e rest sound front ∙ ap (λ (b : Bool). written_bodies shape run ++ cond b (body_of shape e run.journal ∷ []) []) logged ∙ append-nil (written_bodies shape run)
 
 -- there is room for the next body
-pub room_for : (shape : Shape) (site : Site) (file : List ℕ) (run : Progress) (e : ℕ) (rest : List ℕ) → IsSite shape site file run → takeable shape run ≡ e ∷ rest → has_something_to_log (body_of shape e run.journal) ≡ true →
+pub room_for : {acknowledged : ℕ} → (shape : Shape) (site : Site) (file : List ℕ) (run : Progress) (e : ℕ) (rest : List ℕ) → IsSiteAt acknowledged shape site file run → takeable shape run ≡ e ∷ rest → has_something_to_log (body_of shape e run.journal) ≡ true →
     length file + length (epoch_bytes (body_of shape e run.journal) (length file)) ≤ 115 + most_of_change * changes_in_bodies (written_bodies shape (with_taken shape run e))
 room_for shape site file run e rest held front logged =
     let body = body_of shape e run.journal in
@@ -133,7 +133,7 @@ room_for shape site file run e rest held front logged =
     omega arith
 
 -- that is far below the limit of a file
-pub room_below : (shape : Shape) (site : Site) (file : List ℕ) (run : Progress) (e : ℕ) (rest : List ℕ) → IsSite shape site file run → takeable shape run ≡ e ∷ rest → has_something_to_log (body_of shape e run.journal) ≡ true →
+pub room_below : {acknowledged : ℕ} → (shape : Shape) (site : Site) (file : List ℕ) (run : Progress) (e : ℕ) (rest : List ℕ) → IsSiteAt acknowledged shape site file run → takeable shape run ≡ e ∷ rest → has_something_to_log (body_of shape e run.journal) ≡ true →
     length file + length (epoch_bytes (body_of shape e run.journal) (length file)) < 1048576
 room_below shape site file run e rest held front logged =
     let room = room_for shape site file run e rest held front logged in
@@ -160,7 +160,7 @@ worth_count shape j (e ∷ epochs) a = go (has_something_to_log (body_of shape e
     go false logged h = h
 
 -- few bodies are written
-pub written_small : (shape : Shape) (site : Site) (file : List ℕ) (run : Progress) → IsSite shape site file run → site.log.written ≤ most_changes
+pub written_small : {acknowledged : ℕ} → (shape : Shape) (site : Site) (file : List ℕ) (run : Progress) → IsSiteAt acknowledged shape site file run → site.log.written ≤ most_changes
 written_small shape site file run held =
     let upto = filter (λ epoch. nat_le epoch run.last) (closed_epochs run.journal) in
     let n = held.written in
@@ -173,7 +173,7 @@ written_small shape site file run held =
     omega arith
 
 -- the body of what was assembled is the journal's
-pub body_there : (shape : Shape) (site : Site) (file : List ℕ) (run : Progress) (e : ℕ) (assembled : Assembled) (body : EpochBody) (tables : List Mapped) → IsSite shape site file run → tables ≡ site.mapped →
+pub body_there : {acknowledged : ℕ} → (shape : Shape) (site : Site) (file : List ℕ) (run : Progress) (e : ℕ) (assembled : Assembled) (body : EpochBody) (tables : List Mapped) → IsSiteAt acknowledged shape site file run → tables ≡ site.mapped →
     body ≡ body_of_assembled site.id tables assembled → assembled ≡ journal_assembly shape run.last run.journal e → body ≡ body_of shape e run.journal
 body_there shape site file run e assembled body tables held named is made =
     is
@@ -195,7 +195,7 @@ pub record IsNext (shape : Shape) (run : Progress) (assembled : Assembled) (body
   pub number : assembled.epoch.0 ≡ epoch
   pub body_is : body ≡ body_of shape epoch run.journal
 
-pub next_there : (shape : Shape) (site : Site) (file : List ℕ) (run : Progress) (assembled : Assembled) (body : EpochBody) (tables : List Mapped) → IsSite shape site file run →
+pub next_there : {acknowledged : ℕ} → (shape : Shape) (site : Site) (file : List ℕ) (run : Progress) (assembled : Assembled) (body : EpochBody) (tables : List Mapped) → IsSiteAt acknowledged shape site file run →
     ((fed : Fed) → StandsFor site.events fed → AreChained fed.received → Some assembled ≡ assembled_of fed) → tables ≡ site.mapped → body ≡ body_of_assembled site.id tables assembled → IsNext shape run assembled body
 next_there shape site file run assembled body tables held answers named is =
     let (e, rest, front, made) = one_taken (journal_assembly shape run.last run.journal) (takeable shape run) assembled (next_is shape site file run (Some assembled) held answers) in

@@ -1,28 +1,30 @@
--- What the groups of a site hold behind a commit and a close.
-use Rattle.std.proofs.Common.{◌≡◌, ◌≢◌, ℕ, zero, suc, ◌+◌, ◌*◌, ◌/◌, ◌<◌, ◌≤◌, Bool, true, false, cond, List, [], ◌∷◌, ◌++◌, length, map, get_or, refl, sym, ap, subst, ◌∙◌, inl, inr, arith, ne_eqb, length-append, append_assoc}
-use Rattle.std.specs.Prelude.{◌⊎◌, ◌==◌, ◌&&◌, if◌then◌else◌}
-use Rattle.std.specs.List.{insert, remove}
+-- What the nodes of a site stand for behind a commit.
+use Rattle.std.proofs.Common.{◌≡◌, ◌≢◌, ℕ, zero, suc, ◌+◌, ◌*◌, ◌/◌, ◌<◌, ◌≤◌, Bool, true, false, List, [], ◌∷◌, ◌++◌, length, map, get_or, refl, sym, ap, subst, ◌∙◌, inl, inr, arith, append_assoc, length-append, ne_eqb}
+use Rattle.std.specs.Prelude.{◌⊎◌, ◌==◌, ◌||◌, ◌-◌, if◌then◌else◌, Some, None}
+use Rattle.std.specs.List.{AllByRecursion, insert, list_any, remove, slice_get}
 use Rattle.std.proofs.Math.Nat.{div-mul-le_self, lt-div-mul-add, lt_of_mul-lt-mul_right, mul-le-mul_right, suc-mul}
-use Rattle.std.proofs.lemmas.List.{append-nil, map-append, get_or_append_left}
+use Rattle.std.proofs.lemmas.Bool.{eqb-false}
+use Rattle.std.proofs.lemmas.List.{get_or_append_left, map-append, length-map}
 use Rattle.std.proofs.Math.Seq.{get_or-append_seam}
-use Rattle.std.proofs.lemmas.List.Elements.{filter-append}
 use Rattle.std.proofs.lemmas.List.Edits.{get_or-remove_below, get_or-remove_above, get_or-insert_at, get_or-insert_below, get_or-insert_above}
 use Rattle.std.proofs.lemmas.Grind.{common_steps}
 use Rattle.rb_base.specs.Bucket.{bucket_number}
-use Rattle.rb_base.specs.declared.message.Message.TheVariants.{Part, Done}
-use Rattle.rb_base.specs.declared.epoch.Epoch.{Epoch}
 use Rattle.rb_base.specs.declared.change.Change.{Change}
+use Rattle.rb_base.specs.declared.message.Message.TheVariants.{Part}
 use Rattle.rb_base.specs.declared.message.Sent.{Sent}
 use Rattle.rb_journal_defs.specs.Body.{in_bucket, numbers_below}
-use Rattle.rb_journal_defs.specs.Clock.{first_epoch}
+use Rattle.rb_journal_defs.proofs.Counts.{filter_length}
+use Rattle.rb_message_defs.specs.Message.{part_message, sent_by}
+use Rattle.rb_message_defs.specs.Nodes.{node_at, numbers_in, owner_in}
+use Rattle.rb_play_defs.proofs.Sounds.{length_numbers}
 use Rattle.rb_journal_defs.proofs.Order.{eq_or_ne, lt_or_le}
-use Rattle.rb_message_defs.specs.Message.{home_node, part_message, sent_by}
-use Rattle.rb_bucket.specs.Bucket.{with_change}
-use Rattle.rb_group.specs.Kept.{Kept, nothing_kept}
-use Rattle.rb_group.specs.Group.{Keeps, IsBucketOf, buffers_of, buckets_from, buckets_of, CanClose, part_sent, done_sent}
+use Rattle.rb_group.specs.Kept.{Kept, with_part, covers_in, owner_in as kept_owner}
+use Rattle.rb_group.specs.Group.{Keeps, IsNumberOf, part_sent, CanCommit as CanCommitPart}
 use Rattle.rb_group.specs.declared.group.Group.{Group}
-use Rattle.rb_site.specs.Nodes.{Buffered, nothing_buffered, with_changes, with_close, GroupHolds, GroupsHold, HoldsNodes, CanCommit, CanCloseAll, done_of}
+use Rattle.rb_site.specs.Nodes.{Buffered, OwnersCover, since_of, kept_in, share_of, with_changes, GroupHolds, GroupsHold, HoldsNodes, CanCommit}
 use Rattle.rb_site.specs.declared.nodes.Nodes.{Nodes}
+use Rattle.rb_site.proofs.ShareLaws.{at_number, owner_share, covers_share}
+use Rattle.rb_site.proofs.CommitLaws.{is_of_group, group_committed, group_beside}
 
 -- the group of a bucket, by its number
 pub record IsIn (bucket number replicas groups : ℕ) : Type 0 where
@@ -38,88 +40,61 @@ group_of_bucket bucket replicas groups buckets some count below =
       below = lt-div-mul-add (omega arith);
     }
 
--- a change more in the part of its bucket
-in_bucket_more : (buckets b : ℕ) (cs : List Change) (c : Change) → in_bucket buckets b (cs ++ c ∷ []) ≡ in_bucket buckets b cs ++ (if bucket_number c.table c.key buckets == b then c ∷ [] else [])
-in_bucket_more buckets b cs c = filter-append (λ change. bucket_number change.table change.key buckets == b) cs (c ∷ [])
-
--- the group of a change's bucket behind its commit
-pub group_committed : (first replicas buckets : ℕ) (site : Buffered) (old new : Group) (change : Change) (bucket : ℕ) →
-    bucket ≡ bucket_number change.table change.key buckets →
-    GroupHolds first replicas buckets site old →
-    ((kept : Kept) → Keeps old kept → Keeps new (record kept { changes = with_change kept.opened bucket change kept.changes })) →
-    ((b : ℕ) → IsBucketOf old b → IsBucketOf new b) → buckets_of new ≡ buckets_of old → length (buffers_of new) ≡ length (buffers_of old) →
-    GroupHolds first replicas buckets (with_changes (change ∷ []) site) new
-group_committed first replicas buckets site old new change bucket is held keeps inside numbers nodes = record {
-  own = record held.own { changes = with_change held.own.opened bucket change held.own.changes };
-  keeps = keeps held.own held.keeps;
-  opened = held.opened;
-  closes = held.closes;
-  since = held.since;
-  changes = λ e b from below. changed e b (held.changes e b from below);
-  few = λ e b. fewer e b (held.few e b);
-  numbers = numbers ∙ held.numbers;
-  nodes = nodes ∙ held.nodes;
-  inside = λ b from below. inside b (held.inside b from below);
-}
+any_joined : (test : ℕ → Bool) (xs ys : List ℕ) → list_any test (xs ++ ys) ≡ (list_any test xs || list_any test ys)
+any_joined test [] ys = refl
+any_joined test (x ∷ xs) ys = go (test x) (any_joined test xs ys)
   where
-    o : ℕ
-    o = site.opened
+    go : (b : Bool) → list_any test (xs ++ ys) ≡ (list_any test xs || list_any test ys) → (b || list_any test (xs ++ ys)) ≡ ((b || list_any test xs) || list_any test ys)
+    go true rest = refl
+    go false rest = rest
 
-    changed : (e b : ℕ) → held.own.changes e b ≡ in_bucket buckets b (site.changes e) → with_change held.own.opened bucket change held.own.changes e b ≡ in_bucket buckets b (cond (o == e) (site.changes e ++ change ∷ []) (site.changes e))
-    changed e b same =
-        ap (λ (n : ℕ). with_change n bucket change held.own.changes e b) held.opened ∙ go (o == e) (bucket == b) (ap (λ (n : ℕ). n == b) is)
+-- the numbers from one on are these
+among_last : (first n b : ℕ) → list_any (λ other. other == b) (map (λ step. first + step) (numbers_below (suc n))) ≡ (list_any (λ other. other == b) (map (λ step. first + step) (numbers_below n)) || ((first + n == b) || false))
+among_last first n b =
+    ap (list_any (λ other. other == b)) (map-append (λ step. first + step) (numbers_below n) (n ∷ []))
+    ∙ any_joined (λ other. other == b) (map (λ step. first + step) (numbers_below n)) ((first + n) ∷ [])
+
+among : (first n b : ℕ) → first ≤ b → b < first + n → list_any (λ other. other == b) (map (λ step. first + step) (numbers_below n)) ≡ true
+among first zero b from below = absurd (omega arith)
+among first (suc n) b from below = among_last first n b ∙ go (first + n == b) refl (λ l. among first n b from l)
+  where
+    any_true : (x : Bool) → (x || true) ≡ true
+    any_true true = refl
+    any_true false = refl
+
+    go : (same : Bool) → (first + n == b) ≡ same → (b < first + n → list_any (λ other. other == b) (map (λ step. first + step) (numbers_below n)) ≡ true) →
+        (list_any (λ other. other == b) (map (λ step. first + step) (numbers_below n)) || (same || false)) ≡ true
+    go true q rest = any_true (list_any (λ other. other == b) (map (λ step. first + step) (numbers_below n)))
+    go false q rest = rw (rest (below_top (eqb-false (first + n) b q))) refl
       where
-        go : (x y : Bool) → (bucket == b) ≡ (bucket_number change.table change.key buckets == b) → cond (x && (bucket == b)) (held.own.changes e b ++ change ∷ []) (held.own.changes e b) ≡ in_bucket buckets b (cond x (site.changes e ++ change ∷ []) (site.changes e))
-        go true y named = inner (bucket == b) refl
-          where
-            inner : (z : Bool) → (bucket == b) ≡ z → cond z (held.own.changes e b ++ change ∷ []) (held.own.changes e b) ≡ in_bucket buckets b (site.changes e ++ change ∷ [])
-            inner true q = ap (λ (cs : List Change). cs ++ change ∷ []) same ∙ sym (in_bucket_more buckets b (site.changes e) change ∙ ap (λ (z : Bool). in_bucket buckets b (site.changes e) ++ cond z (change ∷ []) []) (sym named ∙ q))
-            inner false q = same ∙ sym (in_bucket_more buckets b (site.changes e) change ∙ ap (λ (z : Bool). in_bucket buckets b (site.changes e) ++ cond z (change ∷ []) []) (sym named ∙ q) ∙ append-nil (in_bucket buckets b (site.changes e)))
-        go false y named = same
+        below_top : first + n ≢ b → b < first + n
+        below_top differs = omega arith
 
-    fewer : (e b : ℕ) → length (held.own.changes e b) ≤ length (site.changes e) → length (with_change held.own.opened bucket change held.own.changes e b) ≤ length (cond (o == e) (site.changes e ++ change ∷ []) (site.changes e))
-    fewer e b few = subst (λ (n : ℕ). length (with_change n bucket change held.own.changes e b) ≤ length (cond (o == e) (site.changes e ++ change ∷ []) (site.changes e))) (sym held.opened) (go (o == e) (bucket == b))
-      where
-        go : (x y : Bool) → length (cond (x && y) (held.own.changes e b ++ change ∷ []) (held.own.changes e b)) ≤ length (cond x (site.changes e ++ change ∷ []) (site.changes e))
-        go true true = omega (arith, length-append (held.own.changes e b) (change ∷ []), length-append (site.changes e) (change ∷ []))
-        go true false = omega (arith, length-append (site.changes e) (change ∷ []))
-        go false y = few
-
--- a group of other buckets
-pub group_beside : (first replicas buckets : ℕ) (site : Buffered) (group : Group) (change : Change) →
-    ((b : ℕ) → first ≤ b → b < first + replicas → bucket_number change.table change.key buckets ≢ b) →
-    GroupHolds first replicas buckets site group → GroupHolds first replicas buckets (with_changes (change ∷ []) site) group
-group_beside first replicas buckets site group change other held = record {
-  own = held.own;
-  keeps = held.keeps;
-  opened = held.opened;
-  closes = held.closes;
-  changes = λ e b from below. held.changes e b from below ∙ same e b (other b from below) (site.opened == e);
-  since = held.since;
-  few = λ e b. fewer e b (site.opened == e) (held.few e b);
-  numbers = held.numbers;
-  nodes = held.nodes;
-  inside = held.inside;
-}
+none_among : (first n b : ℕ) → (b < first) ⊎ (first + n ≤ b) → list_any (λ other. other == b) (map (λ step. first + step) (numbers_below n)) ≡ false
+none_among first zero b outside = refl
+none_among first (suc n) b outside = among_last first n b ∙ rw (none_among first n b (less outside), ne_eqb (first + n) b (differs outside)) refl
   where
-    same : (e b : ℕ) → bucket_number change.table change.key buckets ≢ b → (x : Bool) → in_bucket buckets b (site.changes e) ≡ in_bucket buckets b (cond x (site.changes e ++ change ∷ []) (site.changes e))
-    same e b differs true = sym (in_bucket_more buckets b (site.changes e) change ∙ rw (ne_eqb (bucket_number change.table change.key buckets) b differs) (append-nil (in_bucket buckets b (site.changes e))))
-    same e b differs false = refl
+    less : (b < first) ⊎ (first + suc n ≤ b) → (b < first) ⊎ (first + n ≤ b)
+    less (inl l) = inl l
+    less (inr l) = inr (omega arith)
 
-    fewer : (e b : ℕ) (x : Bool) → length (held.own.changes e b) ≤ length (site.changes e) → length (held.own.changes e b) ≤ length (cond x (site.changes e ++ change ∷ []) (site.changes e))
-    fewer e b true few = omega (arith, length-append (site.changes e) (change ∷ []))
-    fewer e b false few = few
+    differs : (b < first) ⊎ (first + suc n ≤ b) → first + n ≢ b
+    differs (inl l) same = omega arith
+    differs (inr l) same = omega arith
 
--- the other groups' buckets are others
-beside : (bucket number k replicas b groups : ℕ) → IsIn bucket number replicas groups → k ≢ number → k * replicas ≤ b → b < k * replicas + replicas → bucket ≢ b
-beside bucket number k replicas b groups is differs from below same = go (lt_or_le k number)
+-- the group of a bucket has it, and the others have not
+pub of_its_group : (site : Buffered) (bucket number groups : ℕ) → IsIn bucket number site.members.replicas groups → is_of_group site number bucket ≡ true
+of_its_group site bucket number groups is = among (number * site.members.replicas) site.members.replicas bucket is.from is.below
+
+of_no_other : (site : Buffered) (bucket number k groups : ℕ) → IsIn bucket number site.members.replicas groups → k ≢ number → is_of_group site k bucket ≡ false
+of_no_other site bucket number k groups is differs = none_among (k * site.members.replicas) site.members.replicas bucket (go (lt_or_le k number))
   where
-    step : (x y : ℕ) → x < y → x * replicas + replicas ≤ y * replicas
-    step x y l = let h : suc x * replicas ≤ y * replicas = mul-le-mul_right replicas (omega arith) in let s : suc x * replicas ≡ x * replicas + replicas = suc-mul x replicas in omega arith
+    step : (x y : ℕ) → x < y → x * site.members.replicas + site.members.replicas ≤ y * site.members.replicas
+    step x y l = let h : suc x * site.members.replicas ≤ y * site.members.replicas = mul-le-mul_right site.members.replicas (omega arith) in let s : suc x * site.members.replicas ≡ x * site.members.replicas + site.members.replicas = suc-mul x site.members.replicas in omega arith
 
-    go : (k < number) ⊎ (number ≤ k) → ⊥
-    go (inl l) = let h = step k number l in let a = is.from in omega arith
-    go (inr l) = let h = step number k (omega arith) in let a = is.below in omega arith
+    go : (k < number) ⊎ (number ≤ k) → (bucket < k * site.members.replicas) ⊎ (k * site.members.replicas + site.members.replicas ≤ bucket)
+    go (inl l) = inr (let h = step k number l in let a = is.from in omega arith)
+    go (inr l) = inl (let h = step number k (omega arith) in let a = is.below in omega arith)
 
 -- the groups with one in its place again
 replaced_length : (groups : List Group) (number : ℕ) (new : Group) → number < length groups → length (insert (remove groups number) number new) ≡ length groups
@@ -127,239 +102,148 @@ replaced_length groups number new within = grind (arith, common_steps)
 
 -- as many groups behind a commit
 pub groups_stay : (nodes : Nodes) (bucket number : ℕ) (new : Group) (groups : List Group) → CanCommit nodes → bucket < nodes.buckets → number ≡ bucket / nodes.replicas → groups ≡ insert (remove nodes.groups.items number) number new → length groups ≡ length nodes.groups.items
-groups_stay nodes bucket number new groups (buckets, site, held, some, room) below at items =
+groups_stay nodes bucket number new groups (buckets, site, held, some, cover, room) below at items =
     let own = held.buckets_are in
     let is = group_of_bucket bucket nodes.replicas (length nodes.groups.items) buckets held.some held.count (omega arith) in
     ap length items ∙ replaced_length nodes.groups.items number new (subst (λ (n : ℕ). n < length nodes.groups.items) (sym at) is.within)
 
 -- the groups behind a commit
-pub groups_committed : (replicas buckets : ℕ) (site : Buffered) (groups : List Group) (number bucket : ℕ) (old new : Group) (change : Change) →
-    IsIn bucket number replicas (length groups) → bucket ≡ bucket_number change.table change.key buckets →
-    GroupsHold replicas buckets site groups → old ≡ get_or groups number old →
-    ((kept : Kept) → Keeps old kept → Keeps new (record kept { changes = with_change kept.opened bucket change kept.changes })) →
-    ((b : ℕ) → IsBucketOf old b → IsBucketOf new b) → buckets_of new ≡ buckets_of old → length (buffers_of new) ≡ length (buffers_of old) →
-    GroupsHold replicas buckets (with_changes (change ∷ []) site) (insert (remove groups number) number new)
-groups_committed replicas buckets site groups number bucket old new change is named held at keeps inside numbers nodes = λ k d within. go k d (let n = replaced_length groups number new is.within in omega arith) (lt_or_le k number) (eq_or_ne k number)
+groups_committed : (buckets : ℕ) (site : Buffered) (groups : List Group) (number bucket : ℕ) (new : Group) (c : Change) →
+    IsIn bucket number site.members.replicas (length groups) → bucket ≡ bucket_number c.table c.key buckets →
+    GroupsHold buckets site groups → Keeps new (with_part bucket c (share_of buckets site number)) →
+    GroupsHold buckets (with_changes (c ∷ []) site) (insert (remove groups number) number new)
+groups_committed buckets site groups number bucket new c is named held keeps = λ k d within. go k d (let n = replaced_length groups number new is.within in omega arith) (lt_or_le k number) (eq_or_ne k number)
   where
-    there : GroupHolds (number * replicas) replicas buckets site old
-    there = subst (GroupHolds (number * replicas) replicas buckets site) (sym at) (held number old is.within)
-
-    other : (k : ℕ) → k ≢ number → (b : ℕ) → k * replicas ≤ b → b < k * replicas + replicas → bucket_number change.table change.key buckets ≢ b
-    other k differs b from below same = beside bucket number k replicas b (length groups) is differs from below (named ∙ same)
+    other : (k : ℕ) (d : Group) → k < length groups → k ≢ number → GroupHolds buckets (with_changes (c ∷ []) site) k (get_or groups k d)
+    other k d within differs = group_beside buckets site k bucket (get_or groups k d) c named (of_no_other site bucket number k (length groups) is differs) (held k d within)
 
     room : number ≤ length (remove groups number)
     room = let w = is.within in grind (arith, common_steps)
 
-    go : (k : ℕ) (d : Group) → k < length groups → (k < number) ⊎ (number ≤ k) → (k ≡ number) ⊎ (k ≢ number) → GroupHolds (k * replicas) replicas buckets (with_changes (change ∷ []) site) (get_or (insert (remove groups number) number new) k d)
+    go : (k : ℕ) (d : Group) → k < length groups → (k < number) ⊎ (number ≤ k) → (k ≡ number) ⊎ (k ≢ number) → GroupHolds buckets (with_changes (c ∷ []) site) k (get_or (insert (remove groups number) number new) k d)
     go k d within which (inl q) =
-        subst (λ (n : ℕ). GroupHolds (n * replicas) replicas buckets (with_changes (change ∷ []) site) (get_or (insert (remove groups number) number new) n d)) (sym q)
-        (subst (GroupHolds (number * replicas) replicas buckets (with_changes (change ∷ []) site)) (sym (get_or-insert_at (remove groups number) number new d room))
-        (group_committed (number * replicas) replicas buckets site old new change bucket named there keeps inside numbers nodes))
+        subst (λ (n : ℕ). GroupHolds buckets (with_changes (c ∷ []) site) n (get_or (insert (remove groups number) number new) n d)) (sym q)
+        (subst (GroupHolds buckets (with_changes (c ∷ []) site) number) (sym (get_or-insert_at (remove groups number) number new d room))
+        (group_committed buckets site number bucket new c named (of_its_group site bucket number (length groups) is) keeps))
     go k d within (inl l) (inr differs) =
-        subst (GroupHolds (k * replicas) replicas buckets (with_changes (change ∷ []) site))
+        subst (GroupHolds buckets (with_changes (c ∷ []) site) k)
         (sym (get_or-insert_below (remove groups number) number new d k l room ∙ get_or-remove_below groups number d k l is.within))
-        (group_beside (k * replicas) replicas buckets site (get_or groups k d) change (other k differs) (held k d within))
+        (other k d within differs)
     go zero d within (inr l) (inr differs) = absurd (differs (omega arith))
     go (suc k) d within (inr l) (inr differs) =
         let one : k + 1 ≡ suc k = omega arith in
-        subst (λ (n : ℕ). GroupHolds (n * replicas) replicas buckets (with_changes (change ∷ []) site) (get_or (insert (remove groups number) number new) n d)) one
-        (subst (GroupHolds ((k + 1) * replicas) replicas buckets (with_changes (change ∷ []) site))
+        subst (λ (n : ℕ). GroupHolds buckets (with_changes (c ∷ []) site) n (get_or (insert (remove groups number) number new) n d)) one
+        (subst (GroupHolds buckets (with_changes (c ∷ []) site) (k + 1))
         (sym (get_or-insert_above (remove groups number) number new d k (omega arith) room ∙ get_or-remove_above groups number d k (omega arith) is.within))
-        (group_beside ((k + 1) * replicas) replicas buckets site (get_or groups (k + 1) d) change (other (k + 1) (λ same. differs (omega arith))) (held (k + 1) d (omega arith))))
+        (other (k + 1) d (omega arith) (λ same. differs (omega arith))))
 
--- the nodes behind a commit
-pub nodes_committed : (nodes next : Nodes) (buckets : ℕ) (site : Buffered) (bucket number : ℕ) (old new : Group) (change : Change) →
-    HoldsNodes nodes buckets site → bucket < nodes.buckets → bucket ≡ bucket_number change.table change.key nodes.buckets → number ≡ bucket / nodes.replicas →
-    old ≡ get_or nodes.groups.items number old →
-    ((kept : Kept) → Keeps old kept → Keeps new (record kept { changes = with_change kept.opened bucket change kept.changes })) →
-    ((b : ℕ) → IsBucketOf old b → IsBucketOf new b) → buckets_of new ≡ buckets_of old → length (buffers_of new) ≡ length (buffers_of old) →
-    next.buckets ≡ nodes.buckets → next.replicas ≡ nodes.replicas → next.groups.items ≡ insert (remove nodes.groups.items number) number new →
-    HoldsNodes next buckets (with_changes (change ∷ []) site)
-nodes_committed nodes next buckets site bucket number old new change held below named at there keeps inside numbers count same_buckets same_replicas items =
-    let own = held.buckets_are in
-    let is : IsIn bucket number nodes.replicas (length nodes.groups.items) = subst (λ (n : ℕ). IsIn bucket n nodes.replicas (length nodes.groups.items)) (sym at) (group_of_bucket bucket nodes.replicas (length nodes.groups.items) buckets held.some held.count (omega arith)) in
-    let named_here : bucket ≡ bucket_number change.table change.key buckets = named ∙ ap (bucket_number change.table change.key) own in
-    let long : length next.groups.items ≡ length nodes.groups.items = ap length items ∙ replaced_length nodes.groups.items number new is.within in
-    let groups = groups_committed nodes.replicas buckets site nodes.groups.items number bucket old new change is named_here held.groups there keeps inside numbers count in
-    record {
-      buckets_are = same_buckets ∙ own;
-      some = let s = held.some in omega arith;
-      count = ap (λ (n : ℕ). n * next.replicas) long ∙ ap (λ (r : ℕ). length nodes.groups.items * r) same_replicas ∙ held.count;
-      groups = subst (λ (r : ℕ). GroupsHold r buckets (with_changes (change ∷ []) site) next.groups.items) (sym same_replicas)
-          (subst (GroupsHold nodes.replicas buckets (with_changes (change ∷ []) site)) (sym items) groups);
-    }
-
--- the group of a bucket has it
-pub group_there : (nodes : Nodes) (buckets : ℕ) (site : Buffered) (bucket number : ℕ) (group : Group) → HoldsNodes nodes buckets site → bucket < nodes.buckets → number ≡ bucket / nodes.replicas → group ≡ get_or nodes.groups.items number group → GroupHolds (number * nodes.replicas) nodes.replicas buckets site group × IsIn bucket number nodes.replicas (length nodes.groups.items)
+-- the group of a bucket
+pub group_there : (nodes : Nodes) (buckets : ℕ) (site : Buffered) (bucket number : ℕ) (group : Group) → HoldsNodes nodes buckets site → bucket < nodes.buckets → number ≡ bucket / nodes.replicas → group ≡ get_or nodes.groups.items number group →
+    GroupHolds buckets site number group × IsIn bucket number site.members.replicas (length nodes.groups.items)
 group_there nodes buckets site bucket number group held below at there =
     let own = held.buckets_are in
     let is : IsIn bucket number nodes.replicas (length nodes.groups.items) = subst (λ (n : ℕ). IsIn bucket n nodes.replicas (length nodes.groups.items)) (sym at) (group_of_bucket bucket nodes.replicas (length nodes.groups.items) buckets held.some held.count (omega arith)) in
-    (subst (GroupHolds (number * nodes.replicas) nodes.replicas buckets site) (sym there) (held.groups number group is.within), is)
+    (subst (GroupHolds buckets site number) (sym there) (held.groups number group is.within), subst (λ (r : ℕ). IsIn bucket number r (length nodes.groups.items)) held.replicas is)
 
-pub bucket_there : (nodes : Nodes) (buckets : ℕ) (site : Buffered) (bucket number : ℕ) (group : Group) → HoldsNodes nodes buckets site → bucket < nodes.buckets → number ≡ bucket / nodes.replicas → group ≡ get_or nodes.groups.items number group → IsBucketOf group bucket
-bucket_there nodes buckets site bucket number group held below at there =
-    let found = group_there nodes buckets site bucket number group held below at there in found.0.inside bucket found.1.from found.1.below
+-- the nodes behind a commit
+pub nodes_committed : (nodes next : Nodes) (buckets : ℕ) (site : Buffered) (bucket number : ℕ) (old new : Group) (c : Change) →
+    HoldsNodes nodes buckets site → bucket < nodes.buckets → bucket ≡ bucket_number c.table c.key nodes.buckets → number ≡ bucket / nodes.replicas →
+    old ≡ get_or nodes.groups.items number old →
+    ((kept : Kept) → Keeps old kept → Keeps new (with_part bucket c kept)) →
+    next.buckets ≡ nodes.buckets → next.replicas ≡ nodes.replicas → next.groups.items ≡ insert (remove nodes.groups.items number) number new →
+    HoldsNodes next buckets (with_changes (c ∷ []) site)
+nodes_committed nodes next buckets site bucket number old new c held below named at there keeps same_buckets same_replicas items =
+    let own = held.buckets_are in
+    let (group, is) = group_there nodes buckets site bucket number old held below at there in
+    let named_here : bucket ≡ bucket_number c.table c.key buckets = named ∙ ap (bucket_number c.table c.key) own in
+    let long : length next.groups.items ≡ length nodes.groups.items = ap length items ∙ replaced_length nodes.groups.items number new is.within in
+    record {
+      buckets_are = same_buckets ∙ own;
+      replicas = same_replicas ∙ held.replicas;
+      some = let s = held.some in omega arith;
+      count = ap (λ (n : ℕ). n * next.replicas) long ∙ ap (λ (r : ℕ). length nodes.groups.items * r) same_replicas ∙ held.count;
+      members = held.members;
+      owners = held.owners;
+      groups = subst (GroupsHold buckets (with_changes (c ∷ []) site)) (sym items)
+          (groups_committed buckets site nodes.groups.items number bucket new c is named_here held.groups (keeps (share_of buckets site number) group));
+    }
+
+pub of_all : (P : ℕ → Type 0) (xs : List ℕ) (k x : ℕ) → AllByRecursion P xs → slice_get xs k ≡ Some x → P x
+of_all P [] k x all there = absurd (let g : None ≡ Some x = there in cc)
+of_all P (y ∷ xs) zero x all there = subst P (let g : Some y ≡ Some x = there in cc) all.0
+of_all P (y ∷ xs) (suc k) x all there = of_all P xs k x all.1 there
+
+-- the nodes of a share are as many as the numbers of its group
+pub share_count : (buckets : ℕ) (site : Buffered) (number : ℕ) → length (share_of buckets site number).nodes ≡ site.members.replicas
+share_count buckets site number =
+    length-map (numbers_in site.members number) (λ node. since_of (node_at site.members node))
+    ∙ length-map (numbers_below site.members.replicas) (λ step. number * site.members.replicas + step)
+    ∙ length_numbers site.members.replicas
+
+-- a bucket's owner is of the bucket's group, and covers in its share where it does at the site
+pub owner_covers : (buckets : ℕ) (site : Buffered) (number bucket groups : ℕ) (group : Group) → GroupHolds buckets site number group → IsIn bucket number site.members.replicas groups → bucket < buckets → OwnersCover buckets site →
+    covers_in (share_of buckets site number) (kept_owner (share_of buckets site number) bucket) ≡ true
+owner_covers buckets site number bucket groups group held is below cover =
+    let owner = owner_in site.members bucket in
+    let its : IsNumberOf (share_of buckets site number) owner = of_all (IsNumberOf (share_of buckets site number)) (share_of buckets site number).owners (bucket - number * site.members.replicas) owner held.owners_in
+    (at_number (owner_in site.members) (number * site.members.replicas) site.members.replicas bucket is.from is.below) in
+    let count = share_count buckets site number in
+    ap (covers_in (share_of buckets site number)) (owner_share buckets site number bucket is.from is.below)
+    ∙ covers_share buckets site number owner its.0 (let l = its.1 in omega arith)
+    ∙ cover bucket below
+
+-- the group of a change's bucket can commit it
+pub can_commit : (nodes : Nodes) (bucket number : ℕ) (group : Group) → CanCommit nodes → bucket < nodes.buckets → number ≡ bucket / nodes.replicas → group ≡ get_or nodes.groups.items number group → CanCommitPart group bucket
+can_commit nodes bucket number group (buckets, site, held, some, cover, room) below at there =
+    let (here, is) = group_there nodes buckets site bucket number group held below at there in
+    let own = held.buckets_are in
+    let count = share_count buckets site number in
+    let from = is.from in
+    let most = is.below in
+    let one : kept_in site buckets number site.opened bucket ≡ in_bucket buckets bucket (site.changes site.opened) = ap (λ (x : Bool). if x then in_bucket buckets bucket (site.changes site.opened) else []) (of_its_group site bucket number (length nodes.groups.items) is) in
+    let few = filter_length (λ change. bucket_number change.table change.key buckets == bucket) (site.changes site.opened) in
+    let many : length (kept_in site buckets number site.opened bucket) ≡ length (in_bucket buckets bucket (site.changes site.opened)) = ap length one in
+    (share_of buckets site number, here, (from, omega arith), owner_covers buckets site number bucket (length nodes.groups.items) group here is (omega arith) cover, omega arith)
 
 -- what the owner of a change's bucket sends
-pub part_there : (nodes : Nodes) (buckets : ℕ) (site : Buffered) (bucket number : ℕ) (group : Group) (change : Change) (sent : Sent) → HoldsNodes nodes buckets site → bucket < nodes.buckets → bucket ≡ bucket_number change.table change.key nodes.buckets → number ≡ bucket / nodes.replicas → group ≡ get_or nodes.groups.items number group → ((kept : Kept) → Keeps group kept → sent ≡ part_sent kept bucket change) → sent ≡ sent_by home_node (part_message buckets site.opened (site.changes site.opened) change)
-part_there nodes buckets site bucket number group change sent held below named at there is =
-    let found = group_there nodes buckets site bucket number group held below at there in
-    let own = found.0.own in
-    let same : own.changes own.opened bucket ≡ in_bucket buckets bucket (site.changes site.opened) = found.0.changes own.opened bucket found.1.from found.1.below ∙ ap (λ (e : ℕ). in_bucket buckets bucket (site.changes e)) found.0.opened in
-    let named_here : bucket ≡ bucket_number change.table change.key buckets = named ∙ ap (bucket_number change.table change.key) held.buckets_are in
-    is own found.0.keeps
-    ∙ ap (λ (cs : List Change). record { sender = home_node bucket; message = Part bucket (record { 0 = own.opened }) (length cs) change }) same
-    ∙ ap (λ (e : ℕ). record { sender = home_node bucket; message = Part bucket (record { 0 = e }) (length (in_bucket buckets bucket (site.changes site.opened))) change }) found.0.opened
-    ∙ ap (λ (b : ℕ). record { sender = home_node b; message = Part b (record { 0 = site.opened }) (length (in_bucket buckets b (site.changes site.opened))) change }) named_here
+pub part_there : (nodes : Nodes) (buckets : ℕ) (site : Buffered) (bucket number : ℕ) (group : Group) (c : Change) (sent : Sent) → HoldsNodes nodes buckets site → bucket < nodes.buckets → bucket ≡ bucket_number c.table c.key nodes.buckets →
+    number ≡ bucket / nodes.replicas → group ≡ get_or nodes.groups.items number group → ((kept : Kept) → Keeps group kept → sent ≡ part_sent kept bucket c) →
+    sent ≡ sent_by (owner_in site.members) (part_message buckets site.opened (site.changes site.opened) c)
+part_there nodes buckets site bucket number group c sent held below named at there is_sent =
+    let (here, is) = group_there nodes buckets site bucket number group held below at there in
+    let one : kept_in site buckets number site.opened bucket ≡ in_bucket buckets bucket (site.changes site.opened) = ap (λ (x : Bool). if x then in_bucket buckets bucket (site.changes site.opened) else []) (of_its_group site bucket number (length nodes.groups.items) is) in
+    let named_here : bucket ≡ bucket_number c.table c.key buckets = named ∙ ap (bucket_number c.table c.key) held.buckets_are in
+    is_sent (share_of buckets site number) here
+    ∙ ap (λ (o : ℕ). record { sender = o; message = Part bucket (record { 0 = site.opened }) (length (kept_in site buckets number site.opened bucket)) c }) (owner_share buckets site number bucket is.from is.below)
+    ∙ ap (λ (cs : List Change). record { sender = owner_in site.members bucket; message = Part bucket (record { 0 = site.opened }) (length cs) c }) one
+    ∙ ap (λ (b : ℕ). record { sender = owner_in site.members b; message = Part b (record { 0 = site.opened }) (length (in_bucket buckets b (site.changes site.opened))) c }) named_here
 
 -- one group more
-pub group_more : (replicas buckets : ℕ) (site : Buffered) (groups : List Group) (group : Group) → GroupsHold replicas buckets site groups → GroupHolds (length groups * replicas) replicas buckets site group → GroupsHold replicas buckets site (groups ++ group ∷ [])
-group_more replicas buckets site groups group held is = λ k d within. go k d (let n = length-append groups (group ∷ []) in omega arith) (eq_or_ne k (length groups))
+pub group_more : (buckets : ℕ) (site : Buffered) (groups : List Group) (group : Group) → GroupsHold buckets site groups → GroupHolds buckets site (length groups) group → GroupsHold buckets site (groups ++ group ∷ [])
+group_more buckets site groups group held is = λ k d within. go k d (let n = length-append groups (group ∷ []) in omega arith) (eq_or_ne k (length groups))
   where
-    go : (k : ℕ) (d : Group) → k < length groups + 1 → (k ≡ length groups) ⊎ (k ≢ length groups) → GroupHolds (k * replicas) replicas buckets site (get_or (groups ++ group ∷ []) k d)
+    go : (k : ℕ) (d : Group) → k < length groups + 1 → (k ≡ length groups) ⊎ (k ≢ length groups) → GroupHolds buckets site k (get_or (groups ++ group ∷ []) k d)
     go k d within (inl q) =
-        subst (λ (n : ℕ). GroupHolds (n * replicas) replicas buckets site (get_or (groups ++ group ∷ []) n d)) (sym q)
-        (subst (GroupHolds (length groups * replicas) replicas buckets site) (sym (get_or-append_seam groups group [] d)) is)
+        subst (λ (n : ℕ). GroupHolds buckets site n (get_or (groups ++ group ∷ []) n d)) (sym q)
+        (subst (GroupHolds buckets site (length groups)) (sym (get_or-append_seam groups group [] d)) is)
     go k d within (inr differs) =
-        subst (GroupHolds (k * replicas) replicas buckets site) (sym (get_or_append_left groups (group ∷ []) d k (omega arith))) (held k d (omega arith))
+        subst (GroupHolds buckets site k) (sym (get_or_append_left groups (group ∷ []) d k (omega arith))) (held k d (omega arith))
 
-pub no_groups : (replicas buckets : ℕ) (site : Buffered) → GroupsHold replicas buckets site []
-no_groups replicas buckets site = λ k d within. absurd (omega arith)
-
--- a new group has buffered nothing
-pub group_new : (first replicas buckets opened : ℕ) (group : Group) → Keeps group (nothing_kept opened) → opened ≡ first_epoch → ((b : ℕ) → first ≤ b → b < first + replicas → IsBucketOf group b) → buckets_of group ≡ buckets_from first replicas → length (buffers_of group) ≡ replicas → GroupHolds first replicas buckets (nothing_buffered opened) group
-group_new first replicas buckets opened group keeps first_is inside numbers nodes = record {
-  own = nothing_kept opened;
-  keeps = keeps;
-  opened = refl;
-  since = first_is;
-  closes = refl;
-  changes = λ e b from below. refl;
-  few = λ e b. omega arith;
-  numbers = numbers;
-  nodes = nodes;
-  inside = inside;
-}
-
--- a group that closes
-pub group_closed : (first replicas buckets : ℕ) (site : Buffered) (prev next : Epoch) (old new : Group) → GroupHolds first replicas buckets site old →
-    ((kept : Kept) → Keeps old kept → Keeps new (record kept { opened = next.0; closes = kept.closes ++ (kept.opened, prev.0) ∷ [] })) →
-    ((b : ℕ) → IsBucketOf old b → IsBucketOf new b) → buckets_of new ≡ buckets_of old → length (buffers_of new) ≡ length (buffers_of old) →
-    GroupHolds first replicas buckets (with_close prev.0 next.0 site) new
-group_closed first replicas buckets site prev next old new held keeps inside numbers nodes = record {
-  own = record held.own { opened = next.0; closes = held.own.closes ++ (held.own.opened, prev.0) ∷ [] };
-  keeps = keeps held.own held.keeps;
-  opened = refl;
-  closes = ap (λ (cs : List (ℕ × ℕ)). cs ++ (held.own.opened, prev.0) ∷ []) held.closes ∙ ap (λ (n : ℕ). site.closes ++ (n, prev.0) ∷ []) held.opened;
-  since = held.since;
-  changes = held.changes;
-  few = held.few;
-  numbers = numbers ∙ held.numbers;
-  nodes = nodes ∙ held.nodes;
-  inside = λ b from below. inside b (held.inside b from below);
-}
-
-numbers_plus : (a n : ℕ) → numbers_below (a + n) ≡ numbers_below a ++ map (λ number. a + number) (numbers_below n)
-numbers_plus a zero = let z : a ≡ a + 0 = omega arith in subst (λ (m : ℕ). numbers_below m ≡ numbers_below a ++ []) z (sym (append-nil (numbers_below a)))
-numbers_plus a (suc n) =
-    let s : suc (a + n) ≡ a + suc n = omega arith in
-    subst (λ (m : ℕ). numbers_below m ≡ numbers_below a ++ map (λ number. a + number) (numbers_below n ++ n ∷ [])) s
-    (ap (λ (ns : List ℕ). ns ++ (a + n) ∷ []) (numbers_plus a n)
-    ∙ append_assoc (numbers_below a) (map (λ number. a + number) (numbers_below n)) ((a + n) ∷ [])
-    ∙ ap (λ (ns : List ℕ). numbers_below a ++ ns) (sym (map-append (λ number. a + number) (numbers_below n) (n ∷ []))))
-
--- the Dones of a group are those of its buckets
-dones_there : (first replicas buckets : ℕ) (site : Buffered) (prev : Epoch) (group : Group) (held : GroupHolds first replicas buckets site group) (n : ℕ) → n ≤ replicas → map (done_sent held.own prev) (map (λ number. first + number) (numbers_below n)) ≡ map (done_of buckets site prev) (map (λ number. first + number) (numbers_below n))
-dones_there first replicas buckets site prev group held zero l = refl
-dones_there first replicas buckets site prev group held (suc n) l =
-    let b = first + n in
-    let same : held.own.changes held.own.opened b ≡ in_bucket buckets b (site.changes site.opened) = held.changes held.own.opened b (omega arith) (omega arith) ∙ ap (λ (e : ℕ). in_bucket buckets b (site.changes e)) held.opened in
-    let one : done_sent held.own prev b ≡ done_of buckets site prev b =
-    ap (λ (cs : List Change). record { sender = home_node b; message = Done b (record { 0 = held.own.opened }) prev (length cs) }) same
-    ∙ ap (λ (e : ℕ). record { sender = home_node b; message = Done b (record { 0 = e }) prev (length (in_bucket buckets b (site.changes site.opened))) }) held.opened in
-    map-snoc (done_sent held.own prev) first n
-    ∙ ap (λ (ms : List Sent). ms ++ done_sent held.own prev b ∷ []) (dones_there first replicas buckets site prev group held n (omega arith))
-    ∙ ap (λ (m : Sent). map (done_of buckets site prev) (map (λ number. first + number) (numbers_below n)) ++ m ∷ []) one
-    ∙ sym (map-snoc (done_of buckets site prev) first n)
-  where
-    map-snoc : (f : ℕ → Sent) (first n : ℕ) → map f (map (λ number. first + number) (numbers_below (suc n))) ≡ map f (map (λ number. first + number) (numbers_below n)) ++ f (first + n) ∷ []
-    map-snoc f first n =
-        ap (map f) (map-append (λ number. first + number) (numbers_below n) (n ∷ []))
-        ∙ map-append f (map (λ number. first + number) (numbers_below n)) ((first + n) ∷ [])
-
--- what the groups so far and one more send
-pub dones_more : (k replicas buckets : ℕ) (site : Buffered) (prev : Epoch) (group : Group) (before after dones : List Sent) → GroupHolds (k * replicas) replicas buckets site group → before ≡ map (done_of buckets site prev) (numbers_below (k * replicas)) → ((kept : Kept) → Keeps group kept → dones ≡ map (done_sent kept prev) (buckets_of group)) → after ≡ before ++ dones → after ≡ map (done_of buckets site prev) (numbers_below ((k + 1) * replicas))
-dones_more k replicas buckets site prev group before after dones held so_far is now =
-    let own : dones ≡ map (done_of buckets site prev) (map (λ number. k * replicas + number) (numbers_below replicas)) =
-    is held.own held.keeps ∙ ap (map (done_sent held.own prev)) held.numbers ∙ dones_there (k * replicas) replicas buckets site prev group held replicas (omega arith) in
-    let one : k + 1 ≡ suc k = omega arith in
-    let size : (k + 1) * replicas ≡ k * replicas + replicas = ap (λ (n : ℕ). n * replicas) one ∙ suc-mul k replicas in
-    now
-    ∙ ap (λ (ms : List Sent). ms ++ dones) so_far
-    ∙ ap (λ (ms : List Sent). map (done_of buckets site prev) (numbers_below (k * replicas)) ++ ms) own
-    ∙ sym (map-append (done_of buckets site prev) (numbers_below (k * replicas)) (map (λ number. k * replicas + number) (numbers_below replicas)))
-    ∙ ap (map (done_of buckets site prev)) (sym (numbers_plus (k * replicas) replicas))
-    ∙ ap (λ (n : ℕ). map (done_of buckets site prev) (numbers_below n)) (sym size)
+pub no_groups : (buckets : ℕ) (site : Buffered) → GroupsHold buckets site []
+no_groups buckets site = λ k d within. absurd (omega arith)
 
 -- the group that a loop is at, behind those before it
 pub whole_more : (all before rest after : List Group) (group : Group) → all ≡ before ++ rest → rest ≡ group ∷ after → all ≡ (before ++ group ∷ []) ++ after
 whole_more all before rest after group whole is = whole ∙ ap (λ (gs : List Group). before ++ gs) is ∙ sym (append_assoc before (group ∷ []) after)
 
-pub at_place : (all before rest after : List Group) (group d : Group) → all ≡ before ++ rest → rest ≡ group ∷ after → group ≡ get_or all (length before) d
+at_place : (all before rest after : List Group) (group d : Group) → all ≡ before ++ rest → rest ≡ group ∷ after → group ≡ get_or all (length before) d
 at_place all before rest after group d whole is = sym (ap (λ (gs : List Group). get_or gs (length before) d) (whole ∙ ap (λ (gs : List Group). before ++ gs) is) ∙ get_or-append_seam before group after d)
 
 pub place_within : (all before rest after : List Group) (group : Group) → all ≡ before ++ rest → rest ≡ group ∷ after → length before < length all
 place_within all before rest after group whole is = let n = ap length (whole ∙ ap (λ (gs : List Group). before ++ gs) is) in let s = length-append before (group ∷ after) in omega arith
 
--- the group that a loop is at
-pub group_here : (nodes : Nodes) (buckets : ℕ) (site : Buffered) (before rest after : List Group) (group : Group) → HoldsNodes nodes buckets site → nodes.groups.items ≡ before ++ rest → rest ≡ group ∷ after → GroupHolds (length before * nodes.replicas) nodes.replicas buckets site group
+pub group_here : (nodes : Nodes) (buckets : ℕ) (site : Buffered) (before rest after : List Group) (group : Group) → HoldsNodes nodes buckets site → nodes.groups.items ≡ before ++ rest → rest ≡ group ∷ after →
+    GroupHolds buckets site (length before) group
 group_here nodes buckets site before rest after group held whole is =
-    subst (GroupHolds (length before * nodes.replicas) nodes.replicas buckets site) (sym (at_place nodes.groups.items before rest after group group whole is))
+    subst (GroupHolds buckets site (length before)) (sym (at_place nodes.groups.items before rest after group group whole is))
     (held.groups (length before) group (place_within nodes.groups.items before rest after group whole is))
-
--- it can close
-pub can_close_here : (nodes : Nodes) (before rest after : List Group) (group : Group) → CanCloseAll nodes → nodes.groups.items ≡ before ++ rest → rest ≡ group ∷ after → CanClose group
-can_close_here nodes before rest after group (buckets, site, held, few) whole is =
-    let here = group_here nodes buckets site before rest after group held whole is in
-    (here.own, here.keeps, λ b. let f = here.few here.own.opened b in let q : length (site.changes here.own.opened) ≡ length (site.changes site.opened) = ap (λ (e : ℕ). length (site.changes e)) here.opened in omega arith)
-
--- the groups so far and this one are closed
-pub closed_more : (nodes : Nodes) (buckets : ℕ) (site : Buffered) (prev next : Epoch) (before rest after : List Group) (group closed : Group) (so_far now : List Group) → HoldsNodes nodes buckets site → nodes.groups.items ≡ before ++ rest → rest ≡ group ∷ after → length so_far ≡ length before →
-    GroupsHold nodes.replicas buckets (with_close prev.0 next.0 site) so_far →
-    ((kept : Kept) → Keeps group kept → Keeps closed (record kept { opened = next.0; closes = kept.closes ++ (kept.opened, prev.0) ∷ [] })) →
-    ((b : ℕ) → IsBucketOf group b → IsBucketOf closed b) → buckets_of closed ≡ buckets_of group → length (buffers_of closed) ≡ length (buffers_of group) → now ≡ so_far ++ closed ∷ [] →
-    GroupsHold nodes.replicas buckets (with_close prev.0 next.0 site) now
-closed_more nodes buckets site prev next before rest after group closed so_far now held whole is count there keeps inside numbers nodes_are items =
-    subst (GroupsHold nodes.replicas buckets (with_close prev.0 next.0 site)) (sym items)
-    (group_more nodes.replicas buckets (with_close prev.0 next.0 site) so_far closed there
-    (subst (λ (n : ℕ). GroupHolds (n * nodes.replicas) nodes.replicas buckets (with_close prev.0 next.0 site) closed) (sym count)
-    (group_closed (length before * nodes.replicas) nodes.replicas buckets site prev next group closed (group_here nodes buckets site before rest after group held whole is) keeps inside numbers nodes_are)))
-
--- the nodes whose groups are all closed
-pub nodes_closed : (nodes next_nodes : Nodes) (buckets : ℕ) (site : Buffered) (prev next : Epoch) (before rest : List Group) → HoldsNodes nodes buckets site → nodes.groups.items ≡ before ++ rest → rest ≡ [] → length next_nodes.groups.items ≡ length before →
-    GroupsHold nodes.replicas buckets (with_close prev.0 next.0 site) next_nodes.groups.items → next_nodes.replicas ≡ nodes.replicas → next_nodes.buckets ≡ nodes.buckets → HoldsNodes next_nodes buckets (with_close prev.0 next.0 site)
-nodes_closed nodes next_nodes buckets site prev next before rest held whole none count groups same_replicas same_buckets =
-    let long : length nodes.groups.items ≡ length before = ap length (whole ∙ ap (λ (gs : List Group). before ++ gs) none) ∙ ap length (append-nil before) in
-    record {
-      buckets_are = same_buckets ∙ held.buckets_are;
-      some = let s = held.some in omega arith;
-      count = ap (λ (r : ℕ). length next_nodes.groups.items * r) same_replicas ∙ ap (λ (n : ℕ). n * nodes.replicas) (count ∙ sym long) ∙ held.count;
-      groups = subst (λ (r : ℕ). GroupsHold r buckets (with_close prev.0 next.0 site) next_nodes.groups.items) (sym same_replicas) groups;
-    }
-
--- as many groups behind a close
-pub groups_closed : (nodes : Nodes) (before rest : List Group) (count : ℕ) → nodes.groups.items ≡ before ++ rest → rest ≡ [] → count ≡ length before → count ≡ length nodes.groups.items
-groups_closed nodes before rest count whole none is = is ∙ sym (ap length (whole ∙ ap (λ (gs : List Group). before ++ gs) none) ∙ ap length (append-nil before))
-
--- all Dones are sent
-pub dones_all : (nodes : Nodes) (buckets : ℕ) (site : Buffered) (prev : Epoch) (before rest : List Group) (sent : List Sent) → HoldsNodes nodes buckets site → nodes.groups.items ≡ before ++ rest → rest ≡ [] → sent ≡ map (done_of buckets site prev) (numbers_below (length before * nodes.replicas)) → sent ≡ map (done_of buckets site prev) (numbers_below buckets)
-dones_all nodes buckets site prev before rest sent held whole none is =
-    let long : length nodes.groups.items ≡ length before = ap length (whole ∙ ap (λ (gs : List Group). before ++ gs) none) ∙ ap length (append-nil before) in
-    is ∙ ap (λ (n : ℕ). map (done_of buckets site prev) (numbers_below n)) (ap (λ (n : ℕ). n * nodes.replicas) (sym long) ∙ held.count)
-
--- the Dones of the groups so far and of this one
-pub dones_here : (nodes : Nodes) (buckets : ℕ) (site : Buffered) (prev : Epoch) (before rest after : List Group) (group : Group) (so_far now dones : List Sent) → HoldsNodes nodes buckets site → nodes.groups.items ≡ before ++ rest → rest ≡ group ∷ after → so_far ≡ map (done_of buckets site prev) (numbers_below (length before * nodes.replicas)) → ((kept : Kept) → Keeps group kept → dones ≡ map (done_sent kept prev) (buckets_of group)) → now ≡ so_far ++ dones → now ≡ map (done_of buckets site prev) (numbers_below (length (before ++ group ∷ []) * nodes.replicas))
-dones_here nodes buckets site prev before rest after group so_far now dones held whole is so_far_is sent_is now_is =
-    let size : length before + 1 ≡ length (before ++ group ∷ []) = let n = length-append before (group ∷ []) in omega arith in
-    dones_more (length before) nodes.replicas buckets site prev group so_far now dones (group_here nodes buckets site before rest after group held whole is) so_far_is sent_is now_is
-    ∙ ap (λ (n : ℕ). map (done_of buckets site prev) (numbers_below (n * nodes.replicas))) size

@@ -1,16 +1,19 @@
--- What a fault leaves where an event wrote nothing.
-use Rattle.std.proofs.Common.{◌≡◌, ℕ, Bool, List, refl, sym, ap, subst}
-use Rattle.std.specs.Prelude.{Result, Ok, Err, IfErr}
+-- What an event does at a site, by what it is, and what a fault leaves where it wrote nothing.
+use Rattle.std.proofs.Common.{◌≡◌, ℕ, Bool, true, false, List, refl, sym, ap, subst, ◌∙◌}
+use Rattle.std.specs.Prelude.{Result, Ok, Err, IfErr, Option, Some, None, if◌then◌else◌}
+use Rattle.std.specs.Option.{option_map_or}
 use Rattle.rb_base.specs.declared.script.ClientOp.{ClientOp}
 use Rattle.rb_base.specs.declared.outcome.Outcome.{Outcome}
+use Rattle.rb_base.specs.declared.outcome.Outcome.TheVariants as outcomes
 use Rattle.rb_journal_defs.specs.Body.{Shape}
-use Rattle.rb_play_defs.specs.Step.{Progress, Stepped, written_bodies, injected, tx_step, close_step, deliver_step, deliver_all_step, injection_of, inject_step, site_step}
+use Rattle.rb_play_defs.specs.Step.{Progress, Stepped, unchanged, written_bodies, injected, tx_step, close_step, deliver_step, deliver_all_step, injection_of, inject_step, fail_step, restart_step, resend_step, unless_lost, site_step}
 use Rattle.rb_play_defs.specs.declared.event.SiteEvent.{SiteEvent}
 use Rattle.rb_play_defs.specs.declared.event.SiteEvent.TheVariants as happenings
 use Rattle.rb_play_defs.proofs.Grows.{goes_site}
 use Rattle.rb_site.specs.Fault.{LeavesLog}
-use Rattle.rb_site.specs.Site.{IsSite}
+use Rattle.rb_site.specs.Site.{IsSite, loss_of, needs_all_groups}
 use Rattle.rb_site.specs.declared.fault.SiteFault.{SiteFault}
+use Rattle.rb_site.specs.declared.site.Loss.{Loss}
 use Rattle.rb_site.specs.declared.site.Site.{Site}
 use Rattle.rb_site.proofs.TakeLaws.{leaves_first}
 
@@ -23,13 +26,17 @@ pub step_is : (shape : Shape) (run : Progress) (event : SiteEvent) (step : Stepp
     IsSite shape new file (site_step shape run event).run × (outcome ≡ (site_step shape run event).outcome)
 step_is shape run event step new file outcome is held = subst (λ (s : Stepped). IsSite shape new file s.run × (outcome ≡ s.outcome)) (sym is) held
 
-pub is_tx : (shape : Shape) (run : Progress) (event : SiteEvent) (operations : List ClientOp) → event ≡ happenings.Tx operations → site_step shape run event ≡ tx_step shape operations run
-unfolding site_step
-is_tx shape run event operations is = ap (site_step shape run) is
+-- without a loss a site refuses no event for one
+not_lost : (run : Progress) (step : Stepped) → run.lost ≡ None → unless_lost run step ≡ step
+not_lost run step none = ap (λ (lost : Option (ℕ × ℕ)). option_map_or (λ loss. unchanged run (outcomes.SiteLost loss.0 (record { 0 = loss.1 }))) lost step) none
 
-pub is_close : (shape : Shape) (run : Progress) (event : SiteEvent) (gci : Bool) → event ≡ happenings.Close gci → site_step shape run event ≡ close_step shape gci run
+pub is_tx : (shape : Shape) (run : Progress) (event : SiteEvent) (operations : List ClientOp) → event ≡ happenings.Tx operations → run.lost ≡ None → site_step shape run event ≡ tx_step shape operations run
 unfolding site_step
-is_close shape run event gci is = ap (site_step shape run) is
+is_tx shape run event operations is none = ap (site_step shape run) is ∙ not_lost run (tx_step shape operations run) none
+
+pub is_close : (shape : Shape) (run : Progress) (event : SiteEvent) (gci : Bool) → event ≡ happenings.Close gci → run.lost ≡ None → site_step shape run event ≡ close_step shape gci run
+unfolding site_step
+is_close shape run event gci is none = ap (site_step shape run) is ∙ not_lost run (close_step shape gci run) none
 
 pub is_deliver : (shape : Shape) (run : Progress) (event : SiteEvent) (place : ℕ) → event ≡ happenings.Deliver place → site_step shape run event ≡ deliver_step shape place run
 unfolding site_step
@@ -42,6 +49,51 @@ is_deliver_all shape run event is = ap (site_step shape run) is
 pub is_inject : (shape : Shape) (run : Progress) (event : SiteEvent) → event ≡ happenings.Inject → site_step shape run event ≡ inject_step shape run
 unfolding site_step
 is_inject shape run event is = ap (site_step shape run) is
+
+pub is_fail : (shape : Shape) (run : Progress) (event : SiteEvent) (node : ℕ) → event ≡ happenings.Fail node → run.lost ≡ None → site_step shape run event ≡ fail_step shape node run
+unfolding site_step
+is_fail shape run event node is none = ap (site_step shape run) is ∙ not_lost run (fail_step shape node run) none
+
+pub is_restart : (shape : Shape) (run : Progress) (event : SiteEvent) (node : ℕ) → event ≡ happenings.Restart node → run.lost ≡ None → site_step shape run event ≡ restart_step node run
+unfolding site_step
+is_restart shape run event node is none = ap (site_step shape run) is ∙ not_lost run (restart_step node run) none
+
+pub is_resend : (shape : Shape) (run : Progress) (event : SiteEvent) → event ≡ happenings.Resend → run.lost ≡ None → site_step shape run event ≡ resend_step shape run
+unfolding site_step
+is_resend shape run event is none = ap (site_step shape run) is ∙ not_lost run (resend_step shape run) none
+
+-- an event that needs all groups finds none lost, where the site refuses it for no loss
+pub none_lost : (shape : Shape) (site : Site) (file : List ℕ) (run : Progress) (event same : SiteEvent) → IsSite shape site file run → event ≡ same → needs_all_groups same ≡ true →
+    None ≡ (if needs_all_groups event then site.lost else None) → run.lost ≡ None
+none_lost shape site file run event same held is needs none =
+    let all : needs_all_groups event ≡ true = ap needs_all_groups is ∙ needs in
+    let here : site.lost ≡ None = sym (none ∙ ap (λ (b : Bool). if b then site.lost else None) all) in
+    sym held.lost ∙ ap loss_of here
+
+-- an event at a lost site
+lost_before : (run : Progress) (step : Stepped) (group epoch : ℕ) → run.lost ≡ Some (group, epoch) → unless_lost run step ≡ unchanged run (outcomes.SiteLost group (record { 0 = epoch }))
+lost_before run step group epoch lost = ap (λ (lost : Option (ℕ × ℕ)). option_map_or (λ loss. unchanged run (outcomes.SiteLost loss.0 (record { 0 = loss.1 }))) lost step) lost
+
+refused_where : (shape : Shape) (run : Progress) (event : SiteEvent) (group epoch : ℕ) → needs_all_groups event ≡ true → run.lost ≡ Some (group, epoch) → site_step shape run event ≡ unchanged run (outcomes.SiteLost group (record { 0 = epoch }))
+unfolding site_step
+refused_where shape run (happenings.Tx operations) group epoch needs lost = lost_before run (tx_step shape operations run) group epoch lost
+refused_where shape run (happenings.Close gci) group epoch needs lost = lost_before run (close_step shape gci run) group epoch lost
+refused_where shape run (happenings.Fail node) group epoch needs lost = lost_before run (fail_step shape node run) group epoch lost
+refused_where shape run (happenings.Restart node) group epoch needs lost = lost_before run (restart_step node run) group epoch lost
+refused_where shape run happenings.Resend group epoch needs lost = lost_before run (resend_step shape run) group epoch lost
+refused_where shape run (happenings.Deliver place) group epoch needs lost = absurd (let no : false ≡ true = needs in cc)
+refused_where shape run happenings.DeliverAll group epoch needs lost = absurd (let no : false ≡ true = needs in cc)
+refused_where shape run happenings.Inject group epoch needs lost = absurd (let no : false ≡ true = needs in cc)
+
+pub site_lost : (shape : Shape) (site : Site) (file : List ℕ) (run : Progress) (event : SiteEvent) (loss : Loss) → IsSite shape site file run → Some loss ≡ (if needs_all_groups event then site.lost else None) →
+    IsSite shape site file (site_step shape run event).run × (outcomes.SiteLost loss.group loss.epoch ≡ (site_step shape run event).outcome)
+site_lost shape site file run event loss held is = go (needs_all_groups event) refl is
+  where
+    go : (b : Bool) → needs_all_groups event ≡ b → Some loss ≡ (if b then site.lost else None) → IsSite shape site file (site_step shape run event).run × (outcomes.SiteLost loss.group loss.epoch ≡ (site_step shape run event).outcome)
+    go true needs here =
+        step_is shape run event (unchanged run (outcomes.SiteLost loss.group loss.epoch)) site file (outcomes.SiteLost loss.group loss.epoch)
+        (refused_where shape run event loss.group loss.epoch.0 needs (sym held.lost ∙ ap loss_of (sym here))) (held, refl)
+    go false needs here = absurd (let no : Some loss ≡ None = here in cc)
 
 -- what the injector's turn leaves is what its step leaves
 pub turn_is_step : (shape : Shape) (run : Progress) → (inject_step shape run).run ≡ injected shape run

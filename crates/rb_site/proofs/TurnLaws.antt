@@ -10,12 +10,13 @@ use Rattle.rb_message_defs.specs.declared.answers.Missing.{Missing}
 use Rattle.rb_message_defs.specs.Received.{Fed, AreChained, missing_of}
 use Rattle.rb_message_defs.proofs.Chained.{are_chained}
 use Rattle.rb_evbuf.specs.Buffer.{StandsFor, last_of}
-use Rattle.rb_play_defs.specs.Step.{Progress, fed_by, takeable, worth_logging, written_bodies, last_epoch, with_taken, injected, missing_behind, injection_of, inject_step}
+use Rattle.rb_play_defs.specs.Step.{Progress, fed_by, takeable, worth_logging, written_bodies, last_epoch, acknowledged_epoch, with_taken, injected, missing_behind, injection_of, inject_step}
 use Rattle.rb_play_defs.proofs.Sounds.{last_below_opened}
 use Rattle.rb_play_defs.proofs.Takes.{takeable_rest, injected_more, injected_end, front_of}
+use Rattle.rb_play_defs.proofs.Covering.{acknowledged_rises}
 use Rattle.rb_site.specs.Fault.{LeavesLog}
 use Rattle.rb_site.specs.Inject.{HasTaken}
-use Rattle.rb_site.specs.Site.{IsSite, opened_of}
+use Rattle.rb_site.specs.Site.{IsSite, IsSiteAt, opened_of}
 use Rattle.rb_site.specs.declared.fault.SiteFault.{SiteFault}
 use Rattle.rb_site.specs.declared.site.Site.{Site}
 use Rattle.rb_site.proofs.Device.{least_of_fewer}
@@ -24,7 +25,8 @@ use Rattle.rb_commit.specs.Hand.{Hand}
 -- some of the epochs are taken
 pub record IsTurning (shape : Shape) (run : Progress) (site : Site) (file : List ℕ) (count : ℕ) : Type 0 where
   pub now : Progress
-  pub held : IsSite shape site file now
+  pub held : IsSiteAt (acknowledged_epoch shape run) shape site file now
+  pub told : acknowledged_epoch shape run ≤ acknowledged_epoch shape now
   pub goal : injected shape now ≡ injected shape run
   pub journal : now.journal ≡ run.journal
   pub least : run.written ≤ now.written
@@ -33,11 +35,11 @@ pub record IsTurning (shape : Shape) (run : Progress) (site : Site) (file : List
 
 -- none is yet
 pub turn_starts : (shape : Shape) (run : Progress) (site : Site) (file : List ℕ) → IsSite shape site file run → IsTurning shape run site file 0
-turn_starts shape run site file held = record { now = run; held = held; goal = refl; journal = refl; least = omega arith; counted = omega arith; few = omega arith }
+turn_starts shape run site file held = record { now = run; held = held; told = omega arith; goal = refl; journal = refl; least = omega arith; counted = omega arith; few = omega arith }
 
 -- one more is
 pub turn_more : (shape : Shape) (run : Progress) (old new : Site) (file after : List ℕ) (count more : ℕ) (logged : Bool) (turning : IsTurning shape run old file count) →
-    HasTaken shape turning.now new after (Some logged) → more ≡ count + cond logged 1 0 → IsTurning shape run new after more
+    HasTaken (acknowledged_epoch shape run) shape turning.now new after (Some logged) → more ≡ count + cond logged 1 0 → IsTurning shape run new after more
 turn_more shape run old new file after count more logged turning (e, rest, front, held, is) n =
     let now = turning.now in
     let sound = turning.held.sound in
@@ -51,9 +53,12 @@ turn_more shape run old new file after count more logged turning (e, rest, front
     let before = turning.counted in
     let few = turning.few in
     let least = turning.least in
+    let told = turning.told in
+    let rises = acknowledged_rises shape now e rest sound front in
     record {
       now = with_taken shape now e;
       held = held;
+      told = omega arith;
       goal = sym (injected_more shape now e rest sound front) ∙ turning.goal;
       journal = turning.journal;
       least = omega arith;
@@ -70,7 +75,7 @@ turn_more shape run old new file after count more logged turning (e, rest, front
 
 -- the last taken epoch comes nearer to the open one
 pub turn_smaller : (shape : Shape) (run : Progress) (old new : Site) (file after : List ℕ) (count : ℕ) (logged : Bool) (turning : IsTurning shape run old file count) →
-    HasTaken shape turning.now new after (Some logged) → opened_of new - last_of new.events < opened_of old - last_of old.events
+    HasTaken (acknowledged_epoch shape run) shape turning.now new after (Some logged) → opened_of new - last_of new.events < opened_of old - last_of old.events
 turn_smaller shape run old new file after count logged turning (e, rest, front, held, is) =
     let now = turning.now in
     let ahead = front_of shape now e rest front in
@@ -90,12 +95,13 @@ turn_stops shape run site file after count fault turning leaves =
     (subst (λ (p : Progress). LeavesLog turning.now.written (written_bodies shape p) after fault) turning.goal leaves)
 
 -- no epoch is left
-pub turn_ends : (shape : Shape) (run : Progress) (old new : Site) (file after : List ℕ) (count : ℕ) (turning : IsTurning shape run old file count) → HasTaken shape turning.now new after None →
-    IsSite shape new after (injected shape run) × (count ≡ length (worth_logging shape run.journal (takeable shape run)))
+pub turn_ends : (shape : Shape) (run : Progress) (old new : Site) (file after : List ℕ) (count : ℕ) (turning : IsTurning shape run old file count) → HasTaken (acknowledged_epoch shape run) shape turning.now new after None →
+    IsSiteAt (acknowledged_epoch shape run) shape new after (injected shape run) × (acknowledged_epoch shape run ≤ acknowledged_epoch shape (injected shape run)) × (count ≡ length (worth_logging shape run.journal (takeable shape run)))
 turn_ends shape run old new file after count turning (none, held) =
     let z : length (worth_logging shape turning.now.journal (takeable shape turning.now)) ≡ 0 = ap (λ (es : List ℕ). length (worth_logging shape turning.now.journal es)) none in
     let counted = turning.counted in
-    (subst (IsSite shape new after) (sym (injected_end shape turning.now none) ∙ turning.goal) held, omega arith)
+    let end : turning.now ≡ injected shape run = sym (injected_end shape turning.now none) ∙ turning.goal in
+    (subst (IsSiteAt (acknowledged_epoch shape run) shape new after) end held, subst (λ (p : Progress). acknowledged_epoch shape run ≤ acknowledged_epoch shape p) end turning.told, omega arith)
 
 -- the answer to the turn
 pub turn_outcome : (shape : Shape) (run : Progress) (site : Site) (file : List ℕ) (count : ℕ) (found : Option Missing) (missing : Missing) → IsSite shape site file (injected shape run) → count ≡ length (worth_logging shape run.journal (takeable shape run)) →

@@ -1,10 +1,11 @@
 -- What a client's transaction leaves of a site.
 use Rattle.std.proofs.Common.{◌≡◌, ℕ, ◌+◌, ◌*◌, ◌≤◌, Bool, true, false, cond, List, [], ◌∷◌, ◌++◌, length, map, take, refl, sym, ap, subst, ◌∙◌, arith}
-use Rattle.std.specs.Prelude.{◌==◌, Result, Ok, Err, IfOk, IfErr, Option, Some, None, sum_by}
+use Rattle.std.specs.Prelude.{◌==◌, Result, Ok, Err, IfOk, Option, Some, None, sum_by}
 use Rattle.std.specs.List.{AllByRecursion, filter_map, cons_option, list_any, enumerate_from}
 use Rattle.std.specs.Option.{option_map, option_map_or}
 use Rattle.std.proofs.lemmas.List.{append-nil, length-map}
 use Rattle.std.proofs.lemmas.List.Sums.{sum_by-cons}
+use Rattle.std.proofs.Math.Path.{fun_ext}
 use Rattle.rb_base.specs.Site.{server_of}
 use Rattle.rb_base.specs.declared.row.Row.{Row}
 use Rattle.rb_base.specs.declared.change.Change.{Change}
@@ -19,26 +20,26 @@ use Rattle.rb_journal_defs.proofs.Counts.{epoch_length}
 use Rattle.rb_commit.specs.Fault.{fault_of}
 use Rattle.rb_commit.specs.declared.fault.TxFault.{TxFault}
 use Rattle.rb_base.specs.declared.outcome.Outcome.TheVariants as outcomes
-use Rattle.rb_message_defs.specs.Message.{home_node, parts_sent, sent_by}
+use Rattle.rb_message_defs.specs.Message.{parts_sent, sent_by}
+use Rattle.rb_message_defs.specs.Nodes.{owner_in}
 use Rattle.rb_store.specs.Tables.{rows_in, tables_in}
-use Rattle.rb_play_defs.specs.Step.{Progress, Stepped, unchanged, refused, rows_of, tx_changes, committed, commit_outcome, tx_step, fed_by, written_bodies, last_epoch}
+use Rattle.rb_play_defs.specs.Step.{Progress, Stepped, unchanged, refused, rows_of, tx_changes, committed, commit_outcome, tx_step, fed_by, written_bodies, last_epoch, acknowledged_epoch, failed_in}
 use Rattle.rb_play_defs.specs.Fitting.{FitsTables}
 use Rattle.rb_play_defs.specs.Part.{IsLogOf}
 use Rattle.rb_play_defs.proofs.Sounds.{closed_all_below, sound_commit}
 use Rattle.rb_play_defs.proofs.Fits.{changes_fit}
 use Rattle.rb_evbuf.specs.Buffer.{StandsFor}
-use Rattle.rb_site.specs.Nodes.{Buffered, with_changes, HoldsNodes, CanSend}
-use Rattle.rb_site.specs.Outbox.{HoldsSent, count_in}
+use Rattle.rb_site.specs.Nodes.{Buffered, OwnersCover, with_changes, HoldsNodes, CanSend}
+use Rattle.rb_site.specs.Outbox.{HoldsSent, count_in, nodes_in}
 use Rattle.rb_base.specs.declared.epoch.Epoch.{Epoch}
 use Rattle.rb_site.specs.Outcome.{outcome_of_fault}
 use Rattle.rb_site.specs.Rows.{CanBeStored}
-use Rattle.rb_site.specs.Site.{IsSite, TxFits, buffered_by, most_of_change, changes_in_bodies}
+use Rattle.rb_site.specs.Site.{IsSite, TxFits, buffered_by, closes_of, loss_of, most_of_change, changes_in_bodies}
 use Rattle.rb_site.specs.declared.site.Site.{Site}
 use Rattle.rb_site.specs.declared.site.LogEnd.{LogEnd}
 use Rattle.rb_commit.specs.Hand.{Hand}
 use Rattle.rb_evbuf.specs.declared.buffer.EventBuffer.{EventBuffer}
 use Rattle.rb_base.specs.declared.body.EpochBody.{EpochBody}
-use Rattle.rb_site.proofs.SendLaws.{nodes_same}
 
 -- a transaction over the same rows
 map_alike : {X Y : Type 0} → (f g : X → Y) (xs : List X) → ((x : X) → f x ≡ g x) → map f xs ≡ map g xs
@@ -79,18 +80,36 @@ as_many_changes : (rows : ℕ → ℕ → Option Row) (author transid : ℕ) (op
 unfolding changes_made
 as_many_changes rows author transid operations = length-map operations (λ operation. change_over author transid (rows operation.table operation.key) operation)
 
+-- the nodes behind a transaction
+buffered_committed : (shape : Shape) (run : Progress) (operations : List ClientOp) (changes : List Change) → changes ≡ tx_changes shape operations run → written_bodies shape (committed shape operations run) ≡ written_bodies shape run →
+    with_changes changes (buffered_by shape run) ≡ buffered_by shape (committed shape operations run)
+buffered_committed shape run operations changes is bodies =
+    let made_changes = tx_changes shape operations run in
+    ap (λ (cs : List Change). with_changes cs (buffered_by shape run)) is
+    ∙ ap (λ (f : ℕ → List Change). record { opened = run.opened; acknowledged = acknowledged_epoch shape run; changes = f; closes = closes_of run.journal; members = run.nodes })
+    (fun_ext (λ e. commit_changes shape run.opened (run.drawn + 1) e made_changes run.journal))
+    ∙ ap (λ (bs : List EpochBody). record {
+      opened = run.opened;
+      acknowledged = last_epoch bs;
+      changes = λ e. changes_in shape.site e (Client run.opened (run.drawn + 1) made_changes ∷ run.journal);
+      closes = closes_of run.journal;
+      members = run.nodes;
+    }) (sym bodies)
+
 -- a site that accepted a transaction, however its parts are made
 pub site_committed : (shape : Shape) (old new : Site) (file : List ℕ) (run : Progress) (operations : List ClientOp) (changes : List Change) → IsSite shape old file run → TxFits shape old operations → refusal_of (rows_of shape run) operations ≡ None → changes ≡ tx_changes shape operations run →
     new.id ≡ old.id → new.mapped ≡ old.mapped → new.clock ≡ record { opened = old.clock.opened; previous = old.clock.previous; drawn = old.clock.drawn + 1 } →
     ((t k : ℕ) → rows_in new.tables t k ≡ row_left (of_key t k changes) (rows_in old.tables t k)) → tables_in new.tables ≡ tables_in old.tables →
     ((b : ℕ) (s : Buffered) → HoldsNodes old.nodes b s → HoldsNodes new.nodes b (with_changes changes s)) →
-    ((b : ℕ) (s : Buffered) (ss : List Sent) (ds : List ℕ) → HoldsNodes old.nodes b s → HoldsSent old.outbox ss ds → HoldsSent new.outbox (ss ++ map (sent_by home_node) (parts_sent b s.opened (s.changes s.opened) changes)) ds) →
-    new.events ≡ old.events → new.log ≡ old.log → new.made ≡ old.made + length changes → IsSite shape new file (committed shape operations run)
-site_committed shape old new file run operations changes held fits free is id mapped clock rows count nodes outbox events log made =
+    ((b : ℕ) (s : Buffered) (ss : List Sent) (ds : List ℕ) (fa : ℕ → ℕ) → HoldsNodes old.nodes b s → HoldsSent old.outbox ss ds fa → HoldsSent new.outbox (ss ++ map (sent_by (owner_in s.members)) (parts_sent b s.opened (s.changes s.opened) changes)) ds fa) →
+    nodes_in new.outbox ≡ nodes_in old.outbox →
+    new.events ≡ old.events → new.log ≡ old.log → new.lost ≡ old.lost → new.made ≡ old.made + length changes → IsSite shape new file (committed shape operations run)
+site_committed shape old new file run operations changes held fits free is id mapped clock rows count nodes outbox senders events log lost made =
     let made_changes = tx_changes shape operations run in
     let entry = Client run.opened (run.drawn + 1) made_changes in
     let bodies : written_bodies shape (committed shape operations run) ≡ written_bodies shape run =
     ap (take run.written) (completed_client shape run.opened (run.drawn + 1) made_changes run.journal (closed_all_below run.opened run.journal held.sound.order)) in
+    let behind = buffered_committed shape run operations changes is bodies in
     record {
       declared = held.declared;
       sound = sound_commit shape operations run held.sound;
@@ -100,11 +119,12 @@ site_committed shape old new file run operations changes held fits free is id ma
       clock = clock ∙ ap (λ (hand : Hand). record { opened = hand.opened; previous = hand.previous; drawn = hand.drawn + 1 }) held.clock;
       rows = λ t k. rows t k ∙ ap (row_left (of_key t k changes)) (held.rows t k) ∙ ap (λ (cs : List Change). row_left (of_key t k cs) (row_at shape.site t k run.journal)) is;
       count = count ∙ held.count;
-      nodes = nodes_same new.nodes shape.buckets (with_changes changes (buffered_by shape run)) (buffered_by shape (committed shape operations run)) refl refl
-          (λ e. ap (λ (cs : List Change). cond (run.opened == e) (changes_in shape.site e run.journal ++ cs) (changes_in shape.site e run.journal)) is ∙ commit_changes shape run.opened (run.drawn + 1) e made_changes run.journal)
-          (nodes shape.buckets (buffered_by shape run) held.nodes);
-      outbox = subst (λ (cs : List Change). HoldsSent new.outbox (run.sent ++ map (sent_by home_node) (parts_sent shape.buckets run.opened (changes_in shape.site run.opened run.journal) cs)) run.delivered) is
-          (outbox shape.buckets (buffered_by shape run) run.sent run.delivered held.nodes held.outbox);
+      nodes = subst (HoldsNodes new.nodes shape.buckets) behind (nodes shape.buckets (buffered_by shape run) held.nodes);
+      covered = λ none. subst (OwnersCover shape.buckets) behind (held.covered none);
+      lost = ap loss_of lost ∙ held.lost;
+      outbox = subst (λ (cs : List Change). HoldsSent new.outbox (run.sent ++ map (sent_by (owner_in run.nodes)) (parts_sent shape.buckets run.opened (changes_in shape.site run.opened run.journal) cs)) run.delivered (failed_in run)) is
+          (outbox shape.buckets (buffered_by shape run) run.sent run.delivered (failed_in run) held.nodes held.outbox);
+      senders = senders ∙ held.senders;
       events = subst (λ (b : EventBuffer). StandsFor b (fed_by shape run)) (sym events) held.events;
       written = ap (λ (l : LogEnd). l.written) log ∙ held.written;
       last = ap (λ (l : LogEnd). l.last.0) log ∙ held.last ∙ ap last_epoch (sym bodies);
@@ -125,13 +145,13 @@ site_committed shape old new file run operations changes held fits free is id ma
     counted cs same = omega (arith, sum_by-cons (λ (entry : Entry). length (changes_of shape.site entry)) (Client run.opened (run.drawn + 1) cs) run.journal)
 
 -- there is room to send the changes of a transaction
-pub can_send : (shape : Shape) (site : Site) (file : List ℕ) (run : Progress) (operations : List ClientOp) (changes : List Change) → IsSite shape site file run → TxFits shape site operations → changes ≡ tx_changes shape operations run → CanSend site.nodes changes
-can_send shape site file run operations changes held fits is =
+pub can_send : (shape : Shape) (site : Site) (file : List ℕ) (run : Progress) (operations : List ClientOp) (changes : List Change) → IsSite shape site file run → run.lost ≡ None → TxFits shape site operations → changes ≡ tx_changes shape operations run → CanSend site.nodes changes
+can_send shape site file run operations changes held none fits is =
     let all : length changes ≡ length operations = ap length is ∙ as_many_changes (rows_of shape run) (server_of shape.site) (run.drawn + 1) operations in
     let few = epoch_length shape.site run.opened run.journal in
     let room = fits.room in
     let made = held.made in
-    (shape.buckets, buffered_by shape run, held.nodes, held.sound.some, omega arith)
+    (shape.buckets, buffered_by shape run, held.nodes, held.sound.some, held.covered none, omega arith)
 
 -- and to store them
 pub can_store : (shape : Shape) (site : Site) (file : List ℕ) (run : Progress) (operations : List ClientOp) (changes : List Change) → IsSite shape site file run → TxFits shape site operations → refusal_of (rows_of shape run) operations ≡ None → changes ≡ tx_changes shape operations run → AllByRecursion (CanBeStored (tables_in site.tables)) changes
@@ -199,9 +219,3 @@ outcome_is shape new file run operations transid sent epoch held number opens co
     let e : epoch ≡ record { 0 = run.opened } = ap (λ (n : ℕ). record { 0 = n }) (opens ∙ ap (λ (h : Hand). h.opened) held.clock) in
     let s : sent ≡ length (committed shape operations run).sent = count ∙ ap length held.outbox.sent_is in
     ap (λ (n : ℕ). outcomes.Committed n epoch sent) t ∙ ap (λ (x : Epoch). outcomes.Committed (run.drawn + 1) x sent) e ∙ ap (outcomes.Committed (run.drawn + 1) (record { 0 = run.opened })) s
-
-pub if_err_at : {X E : Type 0} → (result : Result X E) (e : E) (P : E → Type 0) → result ≡ Err e → IfErr result P → P e
-if_err_at {X} {E} result e P is p = subst (λ (r : Result X E). IfErr r P) is p
-
-pub if_ok_at : {X E : Type 0} → (result : Result X E) (x : X) (P : X → Type 0) → result ≡ Ok x → IfOk result P → P x
-if_ok_at {X} {E} result x P is p = subst (λ (r : Result X E). IfOk r P) is p

@@ -1,20 +1,32 @@
 -- What an outbox stands for.
-use Rattle.std.specs.Prelude.{◌≡◌, ℕ, ◌<◌, ◌==◌, not, List, filter, length}
-use Rattle.std.specs.List.{AllByRecursion, list_any}
+use Rattle.std.specs.Prelude.{◌≡◌, ℕ, ◌<◌, ◌≤◌, not, List, filter, length, Some}
+use Rattle.std.specs.List.{AllByRecursion, slice_get}
 use Rattle.rb_base.specs.declared.message.Sent.{Sent}
-use Rattle.rb_journal_defs.specs.Body.{numbers_below}
+use Rattle.rb_message_defs.specs.Nodes.{owner_in, is_gone, waiting_places}
+use Rattle.rb_site.specs.Nodes.{Buffered, HoldsNodes}
 use Rattle.rb_site.specs.declared.outbox.Outbox.{Outbox}
+use Rattle.rb_site.specs.declared.nodes.Nodes.{Nodes}
 
--- the places among so many that were never delivered
-abbrev pub waiting_places : (count : ℕ) → (delivered : List ℕ) → List ℕ
-waiting_places count delivered = filter (λ place. not (list_any (λ other. other == place) delivered)) (numbers_below count)
+-- how many nodes send
+abbrev pub nodes_in : Outbox → ℕ
+nodes_in outbox = length outbox.failed.items
 
 -- how many messages were sent
 abbrev pub count_in : Outbox → ℕ
 count_in outbox = length outbox.sent.items
 
--- an outbox in which these messages were sent, of which those at these places were delivered
-pub record HoldsSent (outbox : Outbox) (sent : List Sent) (delivered : List ℕ) : Type 0 where
+-- an outbox in which these messages were sent, of which those at these places were delivered, and whose nodes last failed when
+-- so many messages were sent
+pub record HoldsSent (outbox : Outbox) (sent : List Sent) (delivered : List ℕ) (failed_at : ℕ → ℕ) : Type 0 where
   pub sent_is : outbox.sent.items ≡ sent
-  pub waiting : outbox.waiting.keys ≡ waiting_places (length sent) delivered
+  pub failed_is : (node : ℕ) → node < length outbox.failed.items → slice_get outbox.failed.items node ≡ Some (failed_at node)
+  pub senders : AllByRecursion (λ message. message.sender < length outbox.failed.items) sent
+  pub failed_within : (node : ℕ) → failed_at node ≤ length sent
+  pub waiting : filter (λ place. not (is_gone failed_at sent place)) outbox.waiting.keys ≡ waiting_places failed_at sent delivered
+  pub within : AllByRecursion (λ place. place < length sent) outbox.waiting.keys
   pub below : AllByRecursion (λ place. place < length sent) delivered
+
+-- the owners of the buckets are among the nodes that send
+abbrev pub OwnersIn : Nodes → Outbox → Type 0
+OwnersIn nodes outbox =
+    (buckets : ℕ) (site : Buffered) → HoldsNodes nodes buckets site → (bucket : ℕ) → bucket < buckets → owner_in site.members bucket < nodes_in outbox

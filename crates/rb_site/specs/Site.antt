@@ -1,6 +1,7 @@
 -- What a site's value stands for.
-use Rattle.std.specs.Prelude.{◌≡◌, ℕ, ◌+◌, ◌*◌, ◌≤◌, ◌<◌, ◌-◌, ◌^◌, List, length, map, sum_by}
-use Rattle.std.specs.List.{AllByRecursion}
+use Rattle.std.specs.Prelude.{◌≡◌, ℕ, ◌+◌, ◌*◌, ◌≤◌, ◌<◌, ◌-◌, ◌/◌, ◌^◌, Bool, true, false, List, length, map, sum_by, Option, Some, None}
+use Rattle.std.specs.List.{AllByRecursion, slice_get}
+use Rattle.std.specs.Option.{option_map, option_and_then}
 use Rattle.rb_base.specs.declared.site.SiteId.TheVariants.{A}
 use Rattle.rb_base.specs.declared.schema.Column.TheVariants.{Num}
 use Rattle.rb_base.specs.declared.schema.Schema.{Schema}
@@ -12,14 +13,19 @@ use Rattle.rb_journal_defs.specs.Body.{Shape, changes_in, mapped_tables}
 use Rattle.rb_text_defs.specs.Script.{most_changes}
 use Rattle.rb_store.specs.Tables.{rows_in, tables_in}
 use Rattle.rb_evbuf.specs.Buffer.{StandsFor}
-use Rattle.rb_play_defs.specs.Step.{Progress, fed_by, last_epoch, written_bodies}
+use Rattle.rb_play_defs.specs.Step.{Progress, failed_in, fed_by, last_epoch, written_bodies, acknowledged_epoch}
 use Rattle.rb_play_defs.specs.Sound.{IsSound}
 use Rattle.rb_play_defs.specs.Fitting.{JournalFits, OperationFits}
 use Rattle.rb_play_defs.specs.Part.{IsLogOf}
 use Rattle.rb_play_defs.specs.declared.event.SiteEvent.{SiteEvent}
 use Rattle.rb_play_defs.specs.declared.event.SiteEvent.TheVariants as events
-use Rattle.rb_site.specs.Nodes.{Buffered, HoldsNodes}
-use Rattle.rb_site.specs.Outbox.{HoldsSent, count_in}
+use Rattle.rb_message_defs.specs.Nodes.{owner_in, unacknowledged}
+use Rattle.rb_bucket.specs.Bucket.{messages_kept}
+use Rattle.rb_bucket.specs.declared.bucket.BucketBuffer.{BucketBuffer}
+use Rattle.rb_group.specs.Nodes.{buffer_of}
+use Rattle.rb_site.specs.Nodes.{Buffered, HoldsNodes, OwnersCover, with_acknowledged}
+use Rattle.rb_site.specs.Outbox.{HoldsSent, count_in, nodes_in}
+use Rattle.rb_site.specs.declared.site.Loss.{Loss}
 use Rattle.rb_site.specs.declared.site.Site.{Site}
 
 -- a table of at most 16 columns of numbers, with a name of at most 32 bytes
@@ -38,9 +44,19 @@ changes_made shape journal = sum_by (λ entry. length (changes_of shape.site ent
 abbrev pub closes_of : Journal → List (ℕ × ℕ)
 closes_of journal = map (λ epoch. (epoch, previous_closed epoch journal)) (closed_epochs journal)
 
--- what the nodes of a site have buffered at a point of its run
+-- what was done at the nodes of a site until a point of its run
 abbrev pub buffered_by : Shape → Progress → Buffered
-buffered_by shape run = record { opened = run.opened; changes = λ epoch. changes_in shape.site epoch run.journal; closes = closes_of run.journal }
+buffered_by shape run = record {
+  opened = run.opened;
+  acknowledged = acknowledged_epoch shape run;
+  changes = λ epoch. changes_in shape.site epoch run.journal;
+  closes = closes_of run.journal;
+  members = run.nodes;
+}
+
+-- the first group that was lost, with the epoch that was needed then
+abbrev pub loss_of : Option Loss → Option (ℕ × ℕ)
+loss_of lost = option_map (λ loss. (loss.group, loss.epoch.0)) lost
 
 -- how many bytes an epoch takes for each of its changes at most
 abbrev pub most_of_change : ℕ
@@ -61,8 +77,8 @@ pub record AreDeclared (shape : Shape) : Type 0 where
 abbrev pub shape_of : List Schema → (groups replicas : ℕ) → Shape
 shape_of schemas groups replicas = record { site = A; buckets = groups * replicas; tables = mapped_tables schemas }
 
--- a site over its log file stands for a point of a run
-pub record IsSite (shape : Shape) (site : Site) (file : List ℕ) (run : Progress) : Type 0 where
+-- a site over its log file, whose nodes were told of this acknowledged epoch, stands for a point of a run
+pub record IsSiteAt (acknowledged : ℕ) (shape : Shape) (site : Site) (file : List ℕ) (run : Progress) : Type 0 where
   pub declared : AreDeclared shape
   pub sound : IsSound shape run
   pub fits : JournalFits shape run.journal
@@ -71,8 +87,11 @@ pub record IsSite (shape : Shape) (site : Site) (file : List ℕ) (run : Progres
   pub clock : site.clock ≡ record { opened = run.opened; previous = previous_closed run.opened run.journal; drawn = run.drawn }
   pub rows : (table key : ℕ) → rows_in site.tables table key ≡ row_at shape.site table key run.journal
   pub count : tables_in site.tables ≡ length shape.tables
-  pub nodes : HoldsNodes site.nodes shape.buckets (buffered_by shape run)
-  pub outbox : HoldsSent site.outbox run.sent run.delivered
+  pub nodes : HoldsNodes site.nodes shape.buckets (with_acknowledged acknowledged (buffered_by shape run))
+  pub covered : run.lost ≡ None → OwnersCover shape.buckets (buffered_by shape run)
+  pub lost : loss_of site.lost ≡ run.lost
+  pub outbox : HoldsSent site.outbox run.sent run.delivered (failed_in run)
+  pub senders : nodes_in site.outbox ≡ shape.buckets
   pub events : StandsFor site.events (fed_by shape run)
   pub written : site.log.written ≡ run.written
   pub last : site.log.last.0 ≡ last_epoch (written_bodies shape run)
@@ -81,6 +100,10 @@ pub record IsSite (shape : Shape) (site : Site) (file : List ℕ) (run : Progres
   pub made : site.made ≡ changes_made shape run.journal
   pub few : site.made ≤ most_changes
   pub size : length file ≤ 115 + most_of_change * changes_in_bodies (written_bodies shape run)
+
+-- its nodes were told of the last written one, as they are but for an injector's turn
+abbrev pub IsSite : Shape → Site → (file : List ℕ) → Progress → Type 0
+IsSite shape site file run = IsSiteAt (acknowledged_epoch shape run) shape site file run
 
 -- how many changes a site's clients have made
 abbrev pub made_by : Site → ℕ
@@ -110,6 +133,17 @@ SameNodes old new = (groups_of new ≡ groups_of old) × (replicas_of new ≡ re
 abbrev pub opened_of : Site → ℕ
 opened_of site = site.clock.opened
 
+-- an event that a lost site refuses
+abbrev pub needs_all_groups : SiteEvent → Bool
+needs_all_groups (events.Tx operations) = true
+needs_all_groups (events.Close gci) = true
+needs_all_groups (events.Deliver place) = false
+needs_all_groups events.DeliverAll = false
+needs_all_groups events.Inject = false
+needs_all_groups (events.Fail node) = true
+needs_all_groups (events.Restart node) = true
+needs_all_groups events.Resend = true
+
 -- what a client's transaction needs: its operations fit the tables, and there is room for its changes and its number
 pub record TxFits (shape : Shape) (site : Site) (operations : List ClientOp) : Type 0 where
   pub fit : AllByRecursion (OperationFits shape.tables) operations
@@ -123,7 +157,19 @@ EventFits shape site (events.Close gci) = opened_of site + 2 ^ 32 < 2 ^ 64
 EventFits shape site (events.Deliver place) = Unit {0}
 EventFits shape site events.DeliverAll = Unit {0}
 EventFits shape site events.Inject = Unit {0}
+EventFits shape site (events.Fail node) = node < shape.buckets
+EventFits shape site (events.Restart node) = (node < shape.buckets) × (opened_of site + 1 < 2 ^ 64)
+EventFits shape site events.Resend = Unit {0}
 
 -- a site that can take an event
 abbrev pub CanTake : Site → (file : List ℕ) → SiteEvent → Type 0
 CanTake site file event = (shape : Shape) × (run : Progress) × IsSite shape site file run × EventFits shape site event
+
+-- the buffer of a node, where it is up
+abbrev pub buffer_at : Site → (node : ℕ) → Option BucketBuffer
+buffer_at site node = option_and_then (λ group. buffer_of group node) (slice_get site.nodes.groups.items (node / site.nodes.replicas))
+
+-- the owner of a bucket is up, and its buffer has all messages of the bucket that are not acknowledged
+abbrev pub OwnerHolds : Shape → Site → Progress → (bucket : ℕ) → Type 0
+OwnerHolds shape site run bucket =
+    option_map (λ buffer. messages_kept buffer bucket run.opened) (buffer_at site (owner_in run.nodes bucket)) ≡ Some (unacknowledged shape (acknowledged_epoch shape run) run.opened run.journal bucket)

@@ -7,6 +7,7 @@
 
 mod body;
 mod fault;
+pub mod law;
 mod mapping;
 mod nodes;
 mod outbox;

@@ -1,11 +1,12 @@
-ghost use Rattle.std.specs.Prelude.{◌≡◌, ◌≤◌, ◌<◌, ◌*◌, ◌^◌, ◌++◌, ◌∷◌, [], ℕ, length, map, IfOk, OnOk};
-ghost use Rattle.rb_journal_defs.specs.Body.{numbers_below};
+ghost use Rattle.std.specs.Prelude.{◌≡◌, ◌≤◌, ◌<◌, ◌+◌, ◌*◌, ◌^◌, ◌++◌, ◌∷◌, [], ℕ, max, length, true, false, IfOk, IfErr, OnOk};
 ghost use Rattle.rb_journal_defs.specs.Clock.{first_epoch};
-ghost use Rattle.rb_message_defs.specs.Message.{home_node, part_message, sent_by};
-ghost use Rattle.rb_site.specs.Nodes.{Buffered, nothing_buffered, HasNodes, SameGroups, with_changes, with_close, GroupHolds, HoldsNodes, CanCommit, CanCloseAll, done_of};
+ghost use Rattle.rb_message_defs.specs.Message.{part_message, sent_by};
+ghost use Rattle.rb_message_defs.specs.Nodes.{node_at, owner_in, with_restart};
+ghost use Rattle.rb_play_defs.specs.Step.{nodes_at_first};
+ghost use Rattle.rb_site.specs.Nodes.{Buffered, nothing_done, HasNodes, SameGroups, with_changes, with_close, with_acknowledged, with_members, GroupHolds, HoldsNodes, CanCommit, CanCloseAll, CanResend, CanFail, CanRestart, CanAcknowledge, FailsTo, FailFault, RestartFault, sent_at_close, sent_at_resend};
 
 use rb_base::{Change, Epoch, NoMemory, Sent, SentList, bucket_of};
-use rb_group::Group;
+use rb_group::{FailOutcome, Group, GroupFault};
 use std::alloc::Global;
 
 /// The node groups of a site.
@@ -30,7 +31,7 @@ impl Nodes {
         requires some { 1 ≤ replicas }
         requires fits { groups * replicas < 2 ^ 32 }
         requires opened { opened.0 ≡ first_epoch }
-        ensures holds { IfOk result (λ nodes. HoldsNodes nodes (groups * replicas) (nothing_buffered opened.0)) }
+        ensures holds { IfOk result (λ nodes. HoldsNodes nodes (groups * replicas) (nothing_done opened.0 (nodes_at_first groups replicas))) }
         ensures nodes { IfOk result (HasNodes groups replicas) }
     {
         let mut all = Vec::new(alloc);
@@ -45,13 +46,13 @@ impl Nodes {
         })
     }
 
-    /// Commits a change of the open epoch: the nodes of its bucket's group buffer it, and what the bucket's owner sends is
-    /// answered. Without memory the nodes are gone.
+    /// Commits a change of the open epoch: the nodes of its bucket's group that buffer this epoch keep it, and what the bucket's
+    /// owner sends is answered. Without memory the nodes are gone.
     pub(crate) fn commit(self, change: &Change) -> Result<(Nodes, Sent), NoMemory>
         requires room { CanCommit self }
         ensures holds { IfOk result (λ pair. (buckets : ℕ) (site : Buffered) → HoldsNodes self buckets site → HoldsNodes pair.0 buckets (with_changes (change.now ∷ []) site)) }
         ensures sent { IfOk result (λ pair. (buckets : ℕ) (site : Buffered) → HoldsNodes self buckets site →
-            pair.1 ≡ sent_by home_node (part_message buckets site.opened (site.changes site.opened) change.now)) }
+            pair.1 ≡ sent_by (owner_in site.members) (part_message buckets site.opened (site.changes site.opened) change.now)) }
         ensures nodes { IfOk result (λ pair. SameGroups self pair.0) }
     {
         let mut nodes = self;
@@ -63,21 +64,21 @@ impl Nodes {
         Ok((nodes, sent))
     }
 
-    /// Closes the open epoch, before which `prev` was closed, and opens `next`: every node knows it, and what the owners of
-    /// the buckets send is answered, bucket 0 first. Without memory the nodes are gone.
+    /// Closes the open epoch, before which `prev` was closed, and opens `next`: every node that buffers it notes the close, and
+    /// what the owners send is answered, group 0 first. Without memory the nodes are gone.
     pub(crate) fn close(self, prev: Epoch, next: Epoch) -> Result<(Nodes, Vec<Sent>), NoMemory>
-        requires room { CanCloseAll self }
+        requires room { CanCloseAll self next.0 }
         ensures holds { IfOk result (λ pair. (buckets : ℕ) (site : Buffered) → HoldsNodes self buckets site → HoldsNodes pair.0 buckets (with_close prev.0 next.0 site)) }
         ensures sent { IfOk result (λ pair. (buckets : ℕ) (site : Buffered) → HoldsNodes self buckets site →
-            pair.1.items ≡ map (done_of buckets site prev) (numbers_below buckets)) }
+            pair.1.items ≡ sent_at_close buckets site prev.0 next.0 (length self.groups.items)) }
         ensures nodes { IfOk result (λ pair. SameGroups self pair.0) }
     {
         let alloc = self.alloc;
         let mut groups = Vec::new(alloc);
         let mut sent = Vec::new(alloc);
         for group in self.groups {
-            let (group, dones) = group.close(prev, next)?;
-            append(&mut sent, dones)?;
+            let (group, messages) = group.close(prev, next)?;
+            append(&mut sent, messages)?;
             groups.push(group)?;
         }
         let nodes = Nodes {
@@ -89,11 +90,55 @@ impl Nodes {
         Ok((nodes, sent))
     }
 
+    /// A node fails: its successor sends what is not acknowledged of its buckets, or the group is lost.
+    pub(crate) fn fail(&mut self, node: u32) -> Result<FailOutcome, GroupFault>
+        requires ready { CanFail self.old node }
+        ensures failed { IfOk result (λ outcome. (buckets : ℕ) (site : Buffered) (sent : ℕ) → HoldsNodes self.old buckets site →
+            ((node_at site.members node).up ≡ true) × FailsTo buckets site node sent outcome self.new) }
+        ensures refused { IfErr result (λ fault. (buckets : ℕ) (site : Buffered) → HoldsNodes self.old buckets site → HoldsNodes self.new buckets site × FailFault site node fault) }
+        ensures nodes { SameGroups self.old self.new }
+    {
+        self.groups[(node / self.replicas) as usize].fail(node)
+    }
+
+    /// A node starts again, and buffers from the epoch on that is answered.
+    pub(crate) fn restart(&mut self, node: u32) -> Result<Epoch, GroupFault>
+        requires ready { CanRestart self.old node }
+        ensures restarted { IfOk result (λ since. (buckets : ℕ) (site : Buffered) → HoldsNodes self.old buckets site →
+            (since.0 ≡ site.opened + 1) × ((node_at site.members node).up ≡ false) × HoldsNodes self.new buckets (with_members (with_restart node site.opened site.members) site)) }
+        ensures refused { IfErr result (λ fault. (buckets : ℕ) (site : Buffered) → HoldsNodes self.old buckets site → HoldsNodes self.new buckets site × RestartFault site node fault) }
+        ensures nodes { SameGroups self.old self.new }
+    {
+        self.groups[(node / self.replicas) as usize].restart(node)
+    }
+
+    /// What the owners send again, group 0 first.
+    pub(crate) fn resend(&self) -> Result<Vec<Sent>, NoMemory>
+        requires ready { CanResend self.now }
+        ensures { IfOk result (λ sent. (buckets : ℕ) (site : Buffered) → HoldsNodes self.now buckets site → sent.items ≡ sent_at_resend buckets site (length self.now.groups.items)) }
+    {
+        let mut sent = Vec::new(self.alloc);
+        for group in &self.groups {
+            append(&mut sent, group.resend()?)?;
+        }
+        Ok(sent)
+    }
+
+    /// All epochs up to this one are acknowledged, or up to a later one, where that was told before.
+    pub(crate) fn acknowledge(&mut self, through: Epoch)
+        requires ready { CanAcknowledge self.old through.0 }
+        ensures holds { (buckets : ℕ) (site : Buffered) → HoldsNodes self.old buckets site → HoldsNodes self.new buckets (with_acknowledged (max site.acknowledged through.0) site) }
+        ensures nodes { SameGroups self.old self.new }
+    {
+        for index in 0..self.groups.len() {
+            self.groups[index].acknowledge(through);
+        }
+    }
+
     /// The group of this number, from 0.
     pub(crate) fn group(&self, number: u32) -> &Group
         requires number { number < length self.now.groups.items }
-        ensures { (buckets : ℕ) (site : Buffered) → HoldsNodes self.now buckets site →
-            GroupHolds (number * self.now.replicas) self.now.replicas buckets site result.now }
+        ensures { (buckets : ℕ) (site : Buffered) → HoldsNodes self.now buckets site → GroupHolds buckets site number result.now }
     {
         &self.groups[number as usize]
     }

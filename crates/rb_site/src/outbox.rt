@@ -1,31 +1,36 @@
-ghost use Rattle.std.specs.Prelude.{◌≡◌, ◌<◌, ◌++◌, ◌∷◌, [], ℕ, List, length, option_map, Some, IfOk, OnOk};
+ghost use Rattle.std.specs.Prelude.{◌≡◌, ◌<◌, ◌≤◌, ◌==◌, ◌++◌, ◌∷◌, [], ℕ, List, length, option_map, Some, IfOk, OnOk, if◌then◌else◌};
 ghost use Rattle.std.specs.List.{slice_get};
 ghost use Rattle.rb_base.specs.declared.message.Sent.{Sent};
 ghost use Rattle.rb_journal_defs.specs.Transaction.{first_of};
-ghost use Rattle.rb_site.specs.Outbox.{HoldsSent, waiting_places, count_in};
+ghost use Rattle.rb_message_defs.specs.Nodes.{is_gone, waiting_places};
+ghost use Rattle.rb_site.specs.Outbox.{HoldsSent, count_in};
 
 use rb_base::{Message, NoMemory, Sent};
 use std::alloc::Global;
 use std::collections::BTreeSet;
 
-/// All messages that a site's nodes ever sent, in order, and the places of those that were never delivered.
+/// All messages that a site's nodes ever sent, in order, the places of those that were never delivered (but for some whose
+/// sender failed since), and by node how many messages were sent when it last failed, 0 where it never did.
 #[derive(Drop)]
 pub(crate) struct Outbox {
     alloc: Global,
     sent: Vec<Sent>,
     waiting: BTreeSet<u64>,
+    failed: Vec<u64>,
 }
 
 impl Outbox {
-    /// An outbox in which nothing was sent.
-    pub(crate) fn new(alloc: Global) -> Outbox
-        ensures { HoldsSent result [] [] }
+    /// An outbox of so many nodes, in which nothing was sent.
+    pub(crate) fn new(alloc: Global, nodes: u32) -> Result<Outbox, NoMemory>
+        ensures { IfOk result (λ outbox. HoldsSent outbox [] [] (λ node. 0) × (length outbox.failed.items ≡ nodes)) }
     {
-        Outbox {
+        let failed = vec![in alloc; 0u64; nodes as usize]?;
+        Ok(Outbox {
             alloc,
             sent: Vec::new(alloc),
             waiting: BTreeSet::new(alloc),
-        }
+            failed,
+        })
     }
 
     /// How many messages were sent.
@@ -37,29 +42,70 @@ impl Outbox {
 
     /// Sends a message. At an `Err` the outbox is of no use any more.
     pub(crate) fn send(&mut self, message: Sent) -> Result<(), NoMemory>
-        ensures { OnOk result ((sent : List Sent) (delivered : List ℕ) → HoldsSent self.old sent delivered → HoldsSent self.new (sent ++ message ∷ []) delivered) }
+        requires sender { message.sender < length self.old.failed.items }
+        ensures sent { OnOk result ((sent : List Sent) (delivered : List ℕ) (failed_at : ℕ → ℕ) → HoldsSent self.old sent delivered failed_at →
+            HoldsSent self.new (sent ++ message ∷ []) delivered failed_at) }
+        ensures nodes { length self.new.failed.items ≡ length self.old.failed.items }
     {
         self.waiting.insert(self.sent.len() as u64)?;
         self.sent.push(message)?;
         Ok(())
     }
 
-    /// The first place whose message was never delivered.
-    pub(crate) fn first_waiting(&self) -> Option<u64>
-        ensures { (sent : List Sent) (delivered : List ℕ) → HoldsSent self.now sent delivered → result ≡ first_of (waiting_places (length sent) delivered) }
+    /// The first place whose message was never delivered and whose sender did not fail since. Places of failed senders are
+    /// dropped as they come first.
+    pub(crate) fn first_waiting(&mut self) -> Option<u64>
+        ensures first { (sent : List Sent) (delivered : List ℕ) (failed_at : ℕ → ℕ) → HoldsSent self.old sent delivered failed_at →
+            result ≡ first_of (waiting_places failed_at sent delivered) }
+        ensures holds { (sent : List Sent) (delivered : List ℕ) (failed_at : ℕ → ℕ) → HoldsSent self.old sent delivered failed_at →
+            HoldsSent self.new sent delivered failed_at }
+        ensures sent { self.new.sent ≡ self.old.sent }
+        ensures failed { self.new.failed ≡ self.old.failed }
     {
-        self.waiting.first().copied()
+        while let Some(place) = self.waiting.first().copied() {
+            if !self.is_gone(place) {
+                return Some(place);
+            }
+            self.waiting.remove(&place);
+        }
+        None
+    }
+
+    // The sender of the message at a place failed since.
+    fn is_gone(&self, place: u64) -> bool
+        ensures { (sent : List Sent) (delivered : List ℕ) (failed_at : ℕ → ℕ) → HoldsSent self.now sent delivered failed_at →
+            result ≡ is_gone failed_at sent place }
+    {
+        let Some(message) = self.sent.get(place as usize) else {
+            return false;
+        };
+        let Some(failed) = self.failed.get(message.sender as usize) else {
+            return false;
+        };
+        place < *failed
     }
 
     /// An equal message to that at a place, which counts as delivered from now on. At an `Err` the outbox is of no use any
     /// more.
     pub(crate) fn deliver(&mut self, place: u64) -> Result<Message, NoMemory>
         requires place { place < count_in self.old }
-        ensures message { IfOk result (λ message. (sent : List Sent) (delivered : List ℕ) → HoldsSent self.old sent delivered →
+        ensures message { IfOk result (λ message. (sent : List Sent) (delivered : List ℕ) (failed_at : ℕ → ℕ) → HoldsSent self.old sent delivered failed_at →
             option_map (λ sent. sent.message) (slice_get sent place) ≡ Some message) }
-        ensures delivered { OnOk result ((sent : List Sent) (delivered : List ℕ) → HoldsSent self.old sent delivered → HoldsSent self.new sent (place ∷ delivered)) }
+        ensures delivered { OnOk result ((sent : List Sent) (delivered : List ℕ) (failed_at : ℕ → ℕ) → HoldsSent self.old sent delivered failed_at →
+            HoldsSent self.new sent (place ∷ delivered) failed_at) }
+        ensures nodes { length self.new.failed.items ≡ length self.old.failed.items }
     {
         self.waiting.remove(&place);
         self.sent[place as usize].message.copy(self.alloc)
+    }
+
+    /// A node fails: what it sent until now is not given any more by `first_waiting`.
+    pub(crate) fn node_failed(&mut self, node: u32)
+        requires node { node < length self.old.failed.items }
+        ensures failed { (sent : List Sent) (delivered : List ℕ) (failed_at : ℕ → ℕ) → HoldsSent self.old sent delivered failed_at →
+            HoldsSent self.new sent delivered (λ other. if other == node then length sent else failed_at other) }
+        ensures nodes { length self.new.failed.items ≡ length self.old.failed.items }
+    {
+        self.failed[node as usize] = self.sent.len() as u64;
     }
 }

@@ -1,4 +1,5 @@
-ghost use Rattle.std.specs.Prelude.{◌≡◌, ◌≢◌, ◌+◌, ◌*◌, ◌<◌, ◌^◌, ℕ, [], length, List, None, IfOk, IfErr, OnOk};
+ghost use Rattle.std.specs.Option.{option_map};
+ghost use Rattle.std.specs.Prelude.{◌≡◌, ◌≢◌, ◌+◌, ◌*◌, ◌<◌, ◌^◌, ℕ, [], length, List, None, if◌then◌else◌, IfOk, IfErr, OnOk};
 ghost use Rattle.rb_site.specs.Outcome.{outcome_of_fault};
 ghost use Rattle.rb_base.specs.declared.script.ClientOp.{ClientOp};
 ghost use Rattle.rb_evbuf.specs.Buffer.{StandsFor};
@@ -7,7 +8,7 @@ ghost use Rattle.rb_journal_defs.specs.Journal.{row_at};
 ghost use Rattle.rb_journal_defs.specs.Transaction.{refusal_of};
 ghost use Rattle.rb_site.specs.Nodes.{GroupHolds};
 ghost use Rattle.rb_journal_defs.specs.Body.{Shape, has_something_to_log};
-ghost use Rattle.rb_play_defs.specs.Step.{Progress, fed_by, last_epoch, beginning, rows_of, tx_changes, committed, commit_outcome, tx_step, close_step, deliver_step, deliver_all_step, injected, inject_step, site_step, written_bodies, answer_outcome as outcome_of_answer};
+ghost use Rattle.rb_play_defs.specs.Step.{Progress, fed_by, last_epoch, beginning, rows_of, tx_changes, committed, commit_outcome, tx_step, close_step, deliver_step, deliver_all_step, injected, inject_step, site_step, written_bodies, fail_step, restart_step, resend_step, answer_outcome as outcome_of_answer};
 
 use crate::body::body_of;
 use crate::fault::SiteFault;
@@ -24,7 +25,7 @@ use rb_base::{
 use rb_commit::{Clock, TxFault, prepare};
 use rb_disk::LogDisk;
 use rb_evbuf::{EventBuffer, Missing, Received};
-use rb_group::Group;
+use rb_group::{FailOutcome, Group, GroupFault};
 use rb_play_defs::SiteEvent;
 use rb_store::Tables;
 use std::alloc::Global;
@@ -38,6 +39,14 @@ pub(crate) struct LogEnd {
     pub(crate) last: Epoch,
     /// The bytes of the file.
     pub(crate) length: u32,
+}
+
+/// A group that was lost.
+#[derive(Clone, Copy, Debug)]
+pub(crate) struct Loss {
+    pub(crate) group: u32,
+    /// The epoch that was needed then.
+    pub(crate) epoch: Epoch,
 }
 
 /// One site within a run.
@@ -55,10 +64,12 @@ pub struct Site {
     log: LogEnd,
     // How many changes its clients have made.
     made: u64,
+    // The first group that was lost.
+    lost: Option<Loss>,
 }
 
 impl Site {
-    ghost use Rattle.rb_site.specs.Site.{IsSite, AreDeclared, EventFits, TxFits, CanTake, opened_of, sent_by_site, shape_of, groups_of, replicas_of, SameNodes, buffered_by};
+    ghost use Rattle.rb_site.specs.Site.{IsSite, IsSiteAt, AreDeclared, EventFits, TxFits, CanTake, opened_of, sent_by_site, shape_of, groups_of, replicas_of, SameNodes, buffered_by, needs_all_groups};
     ghost use Rattle.rb_site.specs.Inject.{HasTaken};
     ghost use Rattle.rb_site.specs.Fault.{HasDiskCause, LeavesLog, LeavesPart};
 
@@ -75,7 +86,7 @@ impl Site {
         requires few { groups * replicas < 2 ^ 32 }
         requires tables { length schemas.now < 2 ^ 16 }
         requires empty { D.seen disk.old 1 ≡ [] }
-        ensures begun { IfOk result (λ site. IsSite (shape_of schemas.now groups replicas) site (D.seen disk.new 1) beginning) }
+        ensures begun { IfOk result (λ site. IsSite (shape_of schemas.now groups replicas) site (D.seen disk.new 1) (beginning groups replicas)) }
         ensures nodes { IfOk result (λ site. (groups_of site ≡ groups) × (replicas_of site ≡ replicas)) }
         ensures stopped { IfErr result (LeavesPart [] (D.seen disk.new 1)) }
         ensures others { (other : ℕ) → other ≢ 1 → D.seen disk.new other ≡ D.seen disk.old other }
@@ -85,6 +96,7 @@ impl Site {
         let rows = Tables::new(alloc, schemas)?;
         let mapped = map_tables(alloc, schemas)?;
         let nodes = Nodes::new(alloc, groups, replicas, clock.open())?;
+        let outbox = Outbox::new(alloc, groups * replicas)?;
         let events = EventBuffer::new(alloc, groups * replicas, Epoch(0))?;
         let length = begin_file(alloc, disk)?;
         Ok(Site {
@@ -94,7 +106,7 @@ impl Site {
             mapped,
             clock,
             nodes,
-            outbox: Outbox::new(alloc),
+            outbox,
             events,
             log: LogEnd {
                 written: 0,
@@ -102,6 +114,7 @@ impl Site {
                 length,
             },
             made: 0,
+            lost: None,
         })
     }
 
@@ -120,12 +133,18 @@ impl Site {
         ensures others { (other : ℕ) → other ≢ 1 → D.seen disk.new other ≡ D.seen disk.old other }
         ensures cause { HasDiskCause (D.fault_count disk.old) (D.fault_count disk.new) result }
     {
+        if let Some(Loss { group, epoch }) = self.loss_against(event) {
+            return Ok((self, Outcome::SiteLost { group, epoch }));
+        }
         match event {
             SiteEvent::Tx(operations) => Ok(self.transact(operations)?),
             SiteEvent::Close(gci) => Ok(self.close(*gci)?),
             SiteEvent::Deliver(place) => Ok(self.deliver(*place)?),
             SiteEvent::DeliverAll => Ok(self.deliver_all()?),
             SiteEvent::Inject => self.inject(disk),
+            SiteEvent::Fail(node) => Ok(self.fail(*node)?),
+            SiteEvent::Restart(node) => Ok(self.restart(*node)?),
+            SiteEvent::Resend => Ok(self.resend()?),
         }
     }
 
@@ -133,7 +152,7 @@ impl Site {
     pub fn group(&self, number: u32) -> &Group
         requires number { number < groups_of self.now }
         ensures { (shape : Shape) (file : List ℕ) (run : Progress) → IsSite shape self.now file run →
-            GroupHolds (number * replicas_of self.now) (replicas_of self.now) shape.buckets (buffered_by shape run) result.now }
+            GroupHolds shape.buckets (buffered_by shape run) number result.now }
     {
         self.nodes.group(number)
     }
@@ -181,9 +200,29 @@ impl Site {
         self.log.last
     }
 
+    /// The first group that was lost, with the epoch that was needed then, or `None` where none was. It takes no memory.
+    pub fn lost(&self) -> Option<(u32, Epoch)>
+        ensures { (shape : Shape) (file : List ℕ) (run : Progress) → IsSite shape self.now file run → option_map (λ loss. (loss.0, loss.1.0)) result ≡ run.lost }
+    {
+        match self.lost {
+            Some(Loss { group, epoch }) => Some((group, epoch)),
+            None => None,
+        }
+    }
+
+    // The loss for which an event is refused, where it is.
+    fn loss_against(&self, event: &SiteEvent) -> Option<Loss>
+        ensures { result ≡ (if needs_all_groups event.now then self.now.lost else None) }
+    {
+        match event {
+            SiteEvent::Deliver(_) | SiteEvent::DeliverAll | SiteEvent::Inject => None,
+            _ => self.lost,
+        }
+    }
+
     // A client's transaction: refused, with nothing changed, or accepted.
     fn transact(self, operations: &ClientOps) -> Result<(Site, Outcome), NoMemory>
-        requires fits { (file : List ℕ) × (shape : Shape) × (run : Progress) × IsSite shape self file run × TxFits shape self operations.now }
+        requires fits { (file : List ℕ) × (shape : Shape) × (run : Progress) × IsSite shape self file run × (run.lost ≡ None) × TxFits shape self operations.now }
         ensures stepped { IfOk result (λ pair. (shape : Shape) (file : List ℕ) (run : Progress) → IsSite shape self file run → TxFits shape self operations.now →
             IsSite shape pair.0 file (tx_step shape operations.now run).run × (pair.1 ≡ (tx_step shape operations.now run).outcome)) }
         ensures nodes { IfOk result (λ pair. SameNodes self pair.0) }
@@ -210,7 +249,7 @@ impl Site {
 
     // Accepts the changes of a transaction: they are numbered, buffered, sent and stored.
     fn commit(self, changes: Changes) -> Result<(Site, Outcome), NoMemory>
-        requires accepted { (file : List ℕ) × (shape : Shape) × (run : Progress) × (operations : List ClientOp) × IsSite shape self file run × TxFits shape self operations
+        requires accepted { (file : List ℕ) × (shape : Shape) × (run : Progress) × (operations : List ClientOp) × IsSite shape self file run × (run.lost ≡ None) × TxFits shape self operations
             × (refusal_of (rows_of shape run) operations ≡ None) × (changes ≡ tx_changes shape operations run) }
         ensures committed { IfOk result (λ pair. (shape : Shape) (file : List ℕ) (run : Progress) (operations : List ClientOp) → IsSite shape self file run → TxFits shape self operations →
             refusal_of (rows_of shape run) operations ≡ None → changes ≡ tx_changes shape operations run →
@@ -239,7 +278,7 @@ impl Site {
 
     // The open epoch closes: the nodes tell the ends of their parts, and the next epoch opens.
     fn close(self, gci: bool) -> Result<(Site, Outcome), NoMemory>
-        requires fits { (file : List ℕ) × (shape : Shape) × (run : Progress) × IsSite shape self file run × (opened_of self + 2 ^ 32 < 2 ^ 64) }
+        requires fits { (file : List ℕ) × (shape : Shape) × (run : Progress) × IsSite shape self file run × (run.lost ≡ None) × (opened_of self + 2 ^ 32 < 2 ^ 64) }
         ensures closed { IfOk result (λ pair. (shape : Shape) (file : List ℕ) (run : Progress) → IsSite shape self file run →
             IsSite shape pair.0 file (close_step shape gci run).run × (pair.1 ≡ (close_step shape gci run).outcome)) }
         ensures nodes { IfOk result (λ pair. SameNodes self pair.0) }
@@ -254,6 +293,64 @@ impl Site {
         let sent = site.outbox.len();
         let site = Site { nodes, ..site };
         Ok((site, Outcome::Closed { epoch, sent }))
+    }
+
+    // A node fails, where it is up: the next one of its group that covers takes its buckets over, or the group is lost.
+    fn fail(self, node: u32) -> Result<(Site, Outcome), NoMemory>
+        requires fits { (file : List ℕ) × (shape : Shape) × (run : Progress) × IsSite shape self file run × (run.lost ≡ None) × (node < shape.buckets) }
+        ensures failed { IfOk result (λ pair. (shape : Shape) (file : List ℕ) (run : Progress) → IsSite shape self file run → run.lost ≡ None →
+            IsSite shape pair.0 file (fail_step shape node run).run × (pair.1 ≡ (fail_step shape node run).outcome)) }
+        ensures nodes { IfOk result (λ pair. SameNodes self pair.0) }
+    {
+        let mut site = self;
+        let outcome = match site.nodes.fail(node) {
+            Ok(FailOutcome::Takeover(takeover, messages)) => {
+                site.outbox.node_failed(node);
+                send_all(&mut site.outbox, messages.into_vec())?;
+                let sent = site.outbox.len();
+                Outcome::Failed { takeover, sent }
+            }
+            Ok(FailOutcome::Lost { group, epoch }) => {
+                site.outbox.node_failed(node);
+                site.lost = Some(Loss { group, epoch });
+                Outcome::Lost { group, epoch }
+            }
+            Err(GroupFault::NodeDown(node)) => Outcome::NodeDown(node),
+            Err(GroupFault::NodeUp(_)) => unreachable!(),
+            Err(GroupFault::NoMemory) => return Err(NoMemory),
+        };
+        Ok((site, outcome))
+    }
+
+    // A node starts again, where it is down.
+    fn restart(self, node: u32) -> Result<(Site, Outcome), NoMemory>
+        requires fits { (file : List ℕ) × (shape : Shape) × (run : Progress) × IsSite shape self file run × (run.lost ≡ None) × (node < shape.buckets) × (opened_of self + 1 < 2 ^ 64) }
+        ensures restarted { IfOk result (λ pair. (shape : Shape) (file : List ℕ) (run : Progress) → IsSite shape self file run → run.lost ≡ None →
+            IsSite shape pair.0 file (restart_step node run).run × (pair.1 ≡ (restart_step node run).outcome)) }
+        ensures nodes { IfOk result (λ pair. SameNodes self pair.0) }
+    {
+        let mut site = self;
+        let outcome = match site.nodes.restart(node) {
+            Ok(since) => Outcome::Restarted { since },
+            Err(GroupFault::NodeUp(node)) => Outcome::NodeUp(node),
+            Err(GroupFault::NodeDown(_)) => unreachable!(),
+            Err(GroupFault::NoMemory) => return Err(NoMemory),
+        };
+        Ok((site, outcome))
+    }
+
+    // Each owner sends again what is not acknowledged of its buckets.
+    fn resend(self) -> Result<(Site, Outcome), NoMemory>
+        requires fits { (file : List ℕ) × (shape : Shape) × (run : Progress) × IsSite shape self file run × (run.lost ≡ None) }
+        ensures resent { IfOk result (λ pair. (shape : Shape) (file : List ℕ) (run : Progress) → IsSite shape self file run → run.lost ≡ None →
+            IsSite shape pair.0 file (resend_step shape run).run × (pair.1 ≡ (resend_step shape run).outcome)) }
+        ensures nodes { IfOk result (λ pair. SameNodes self pair.0) }
+    {
+        let mut site = self;
+        let messages = site.nodes.resend()?;
+        send_all(&mut site.outbox, messages)?;
+        let sent = site.outbox.len();
+        Ok((site, Outcome::Resent { sent }))
     }
 
     // The message at a place reaches the event buffer, where there is one.
@@ -272,7 +369,7 @@ impl Site {
         Ok((site, answer_outcome(answer)))
     }
 
-    // Each message that was never delivered reaches the event buffer, in order.
+    // Each message that was never delivered, and whose sender did not fail since, reaches the event buffer, in order.
     fn deliver_all(self) -> Result<(Site, Outcome), NoMemory>
         requires fits { (file : List ℕ) × (shape : Shape) × (run : Progress) × IsSite shape self file run }
         ensures delivered { IfOk result (λ pair. (shape : Shape) (file : List ℕ) (run : Progress) → IsSite shape self file run →
@@ -300,7 +397,8 @@ impl Site {
         self.events.receive(message)
     }
 
-    // The injector takes every whole epoch, logs those that have something to log, and syncs the file.
+    // The injector takes every whole epoch, logs those that have something to log, syncs the file, and tells the nodes of the last
+    // written one.
     fn inject<D: LogDisk>(self, disk: &mut D) -> Result<(Site, Outcome), SiteFault>
         requires fits { (shape : Shape) × (run : Progress) × IsSite shape self (D.seen disk.old 1) run }
         ensures injected { IfOk result (λ pair. (shape : Shape) (run : Progress) → IsSite shape self (D.seen disk.old 1) run →
@@ -317,6 +415,8 @@ impl Site {
             count += u64::from(logged);
         }
         disk.sync(LOG_FILE)?;
+        // Only what is synced may be released.
+        site.nodes.acknowledge(site.log.last);
         let missing = site.events.missing().unwrap_or(Missing {
             bucket: 0,
             place: None,
@@ -336,10 +436,10 @@ impl Site {
     // Takes the next epoch, and logs it where there is something to log. Answers whether there was, or `None` where the epoch
     // is not whole.
     fn take_next<D: LogDisk>(&mut self, disk: &mut D) -> Result<Option<bool>, SiteFault>
-        requires fits { (shape : Shape) × (run : Progress) × IsSite shape self.old (D.seen disk.old 1) run }
-        ensures taken { IfOk result (λ taken. (shape : Shape) (run : Progress) → IsSite shape self.old (D.seen disk.old 1) run → HasTaken shape run self.new (D.seen disk.new 1) taken) }
+        requires fits { (acknowledged : ℕ) × (shape : Shape) × (run : Progress) × IsSiteAt acknowledged shape self.old (D.seen disk.old 1) run }
+        ensures taken { IfOk result (λ taken. (acknowledged : ℕ) (shape : Shape) (run : Progress) → IsSiteAt acknowledged shape self.old (D.seen disk.old 1) run → HasTaken acknowledged shape run self.new (D.seen disk.new 1) taken) }
         ensures nodes { SameNodes self.old self.new }
-        ensures stopped { IfErr result (λ fault. (shape : Shape) (run : Progress) → IsSite shape self.old (D.seen disk.old 1) run →
+        ensures stopped { IfErr result (λ fault. (acknowledged : ℕ) (shape : Shape) (run : Progress) → IsSiteAt acknowledged shape self.old (D.seen disk.old 1) run →
             LeavesLog run.written (written_bodies shape (injected shape run)) (D.seen disk.new 1) fault) }
         ensures others { (other : ℕ) → other ≢ 1 → D.seen disk.new other ≡ D.seen disk.old other }
         ensures cause { HasDiskCause (D.fault_count disk.old) (D.fault_count disk.new) result }

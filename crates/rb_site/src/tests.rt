@@ -1,4 +1,4 @@
-ghost use Rattle.std.specs.Prelude.{◌≡◌, [], ◌∷◌, Some, codes, IfOk};
+ghost use Rattle.std.specs.Prelude.{◌≡◌, ◌≤◌, [], ◌∷◌, Some, codes, IfOk};
 ghost use Rattle.rb_base.specs.declared.schema.Column.TheVariants as columns;
 ghost use Rattle.rb_base.specs.declared.row.Value.TheVariants as values;
 ghost use Rattle.rb_base.specs.declared.script.Op.TheVariants.{Ins};
@@ -120,6 +120,46 @@ fn all_at_once<D: LogDisk>(alloc: Global, disk: &mut D) -> Result<(Site, Vec<Out
     Ok((site, outcomes))
 }
 
+// One group of so many nodes, and what it answered: a row is inserted, its bucket's owner fails, another row is inserted, and the
+// node starts again.
+fn a_failure<D: LogDisk>(
+    alloc: Global,
+    replicas: u32,
+    disk: &mut D,
+) -> Result<(Site, Vec<Outcome>), SiteFault>
+    requires some { 1 ≤ replicas }
+    requires empty { D.seen disk.old 1 ≡ [] }
+    ensures there { IfOk result (λ pair. (shape : Shape) × (run : Progress) × IsSite shape pair.0 (D.seen disk.new 1) run) }
+{
+    let schemas = one_table(alloc)?;
+    let site = Site::create(alloc, schemas.as_slice(), 1, replicas, disk)?;
+    let (site, first) = site.step(&insert(alloc, 5, 7)?, disk)?;
+    let (site, failed) = site.step(&SiteEvent::Fail(0), disk)?;
+    let (site, second) = site.step(&insert(alloc, 6, 8)?, disk)?;
+    let (site, restarted) = site.step(&SiteEvent::Restart(0), disk)?;
+    let mut outcomes = Vec::new(alloc);
+    outcomes.push(first)?;
+    outcomes.push(failed)?;
+    outcomes.push(second)?;
+    outcomes.push(restarted)?;
+    Ok((site, outcomes))
+}
+
+// The owners send again, and all messages come.
+fn a_failure_and_all<D: LogDisk>(
+    alloc: Global,
+    replicas: u32,
+    disk: &mut D,
+) -> Result<(Site, Vec<Outcome>), SiteFault>
+    requires some { 1 ≤ replicas }
+    requires empty { D.seen disk.old 1 ≡ [] }
+{
+    let (site, mut outcomes) = a_failure(alloc, replicas, disk)?;
+    let site = go_on(site, SiteEvent::Resend, &mut outcomes, disk)?;
+    let site = go_on(site, SiteEvent::DeliverAll, &mut outcomes, disk)?;
+    Ok((site, outcomes))
+}
+
 // The number in the row of a key.
 fn number_at(tables: &Tables, key: u64) -> Option<u64> {
     match tables.get(1, key)?.row.values.as_slice().get(1)? {
@@ -211,7 +251,7 @@ fn the_readers_tell_the_site(rt: HostRuntime) -> Result<(), Fail> {
     let alloc = rt.alloc();
     let mut disk = MemoryDisk::new(alloc);
     let (site, _outcomes) = message_by_message(alloc, &mut disk)?;
-    let _group = site.group(0);
+    assert_eq!(rt; site.group(0).needed(), Epoch(4294967297));
     assert_eq!(rt; site.event_buffer().last(), Epoch(4294967296));
     assert_eq!(rt;
         site.event_buffer().missing(),
@@ -269,5 +309,87 @@ fn each_call_of_the_device_fails(rt: HostRuntime) -> Result<(), Fail> {
     let (site, _outcomes) = all_at_once(alloc, &mut disk)?;
     assert_eq!(rt; site.written(), 1);
     assert_eq!(rt; disk.file(1).len(), 456);
+    Ok(())
+}
+
+// Key 5 is of bucket 0, whose owner is node 0, and key 6 of bucket 1. The part of key 5 is sent by node 0, again by node 1 when
+// it takes bucket 0 over, and again at the resend, as is then that of key 6. What node 0 sent does not come any more.
+#[test]
+fn the_other_node_takes_over(rt: HostRuntime) -> Result<(), Fail> {
+    let alloc = rt.alloc();
+    let mut disk = MemoryDisk::new(alloc);
+    let (site, outcomes) = a_failure_and_all(alloc, 2, &mut disk)?;
+    assert_eq!(rt; site.lost(), None);
+    assert!(rt; matches!(outcomes.get(0), Some(Outcome::Committed { sent: 1, .. })));
+    assert!(rt;
+        matches!(
+            outcomes.get(1),
+            Some(Outcome::Failed {
+                takeover: 1,
+                sent: 2
+            })
+        )
+    );
+    assert!(rt; matches!(outcomes.get(2), Some(Outcome::Committed { sent: 3, .. })));
+    assert!(rt;
+        matches!(
+            outcomes.get(3),
+            Some(Outcome::Restarted {
+                since: Epoch(4294967297)
+            })
+        )
+    );
+    assert!(rt; matches!(outcomes.get(4), Some(Outcome::Resent { sent: 5 })));
+    assert!(rt;
+        matches!(
+            outcomes.get(5),
+            Some(Outcome::Delivered {
+                kept: 2,
+                known: 2,
+                old: 0
+            })
+        )
+    );
+    Ok(())
+}
+
+// The only node of the group fails before its epoch is closed. What is refused then names the loss.
+#[test]
+fn a_lost_site_goes_on_with_deliveries_alone(rt: HostRuntime) -> Result<(), Fail> {
+    let alloc = rt.alloc();
+    let mut disk = MemoryDisk::new(alloc);
+    let (site, outcomes) = a_failure_and_all(alloc, 1, &mut disk)?;
+    assert_eq!(rt; site.lost(), Some((0, Epoch(4294967296))));
+    assert!(rt;
+        matches!(
+            outcomes.get(1),
+            Some(Outcome::Lost {
+                group: 0,
+                epoch: Epoch(4294967296)
+            })
+        )
+    );
+    for place in 2..5usize {
+        assert!(rt;
+            matches!(
+                outcomes.get(place),
+                Some(Outcome::SiteLost {
+                    group: 0,
+                    epoch: Epoch(4294967296)
+                })
+            ),
+            "at {place}"
+        );
+    }
+    assert!(rt;
+        matches!(
+            outcomes.get(5),
+            Some(Outcome::Delivered {
+                kept: 0,
+                known: 0,
+                old: 0
+            })
+        )
+    );
     Ok(())
 }

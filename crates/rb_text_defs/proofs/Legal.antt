@@ -23,7 +23,7 @@ use Rattle.rb_text_defs.specs.declared.script.LinedEvent.{LinedEvent}
 use Rattle.rb_text_defs.specs.declared.script.Script.{Script}
 use Rattle.rb_text_defs.specs.Words.{lines_of}
 use Rattle.rb_text_defs.specs.Form.{Operation, Form, SiteLine, TableLine, TxLine, EventLine, Reading, Wrong, Skipped, Says, reading_of}
-use Rattle.rb_text_defs.specs.Script.{most_bytes, most_lines, most_tables, most_columns, most_groups, most_replicas, most_changes, most_row_bytes, most_tx_changes, most_work, default_limit, closes_in_form, row_bytes, work_of, default_site, first_of, shape_in, table_in, tables_in, is_event, changes_in_form, client_op, row_for, table_number, has_values, is_named, suits_table, suits_tables, events_of, form_in, is_misplaced, limit_passed, refusal_of_line, refused_lines, script_in, script_of, script_of_readings}
+use Rattle.rb_text_defs.specs.Script.{most_bytes, most_lines, most_tables, most_columns, most_groups, most_replicas, most_changes, most_row_bytes, most_tx_changes, most_work, default_limit, row_bytes, work_of, default_site, first_of, nodes_in, shape_in, table_in, tables_in, is_event, changes_in_form, client_op, row_for, table_number, has_values, is_named, suits_table, suits_tables, events_of, form_in, is_misplaced, limit_passed, refusal_of_line, refused_lines, script_in, script_of, script_of_readings}
 use Rattle.rb_text_defs.specs.Legal.{IsLegal, IsLegalTable, IsLegalOperation, IsLegalEvent, HasLegalRow, changes_in_event, columns_at}
 use Rattle.rb_text_defs.proofs.Said.{IsSaidBy, reading_said}
 use Rattle.rb_text_defs.proofs.Lines.{events_more, forms_more, forms_of, no_events, none_given, not_misplaced, or_left, or_right}
@@ -79,7 +79,7 @@ record Keeps (forms : List Form) (told : List LinedEvent) (count : ℕ) : Type 0
   shape : IfSome (first_of (filter_map shape_in forms)) IsLegalShape
   few_tables : length (tables_in forms) ≤ most_tables
   tables : AllByRecursion IsLegalTable (tables_in forms)
-  events : AllByRecursion (λ lined. IsLegalEvent (tables_in forms) lined.event) told
+  events : AllByRecursion (λ lined. IsLegalEvent (tables_in forms) (nodes_in forms) lined.event) told
   changes : sum_by changes_in_form forms ≤ most_changes
   counted : sum_by (λ lined. changes_in_event lined.event) told ≡ sum_by changes_in_form forms
   few : length told ≤ count
@@ -96,7 +96,7 @@ same_shapes forms form none = filter_map-append shape_in forms (form ∷ []) ∙
 
 -- one more form that declares no table
 keeps_form : (forms : List Form) (events more : List LinedEvent) (count : ℕ) (form : Form) → Keeps forms events count → table_in form ≡ None
-    → IfSome (first_of (filter_map shape_in (forms ++ form ∷ []))) IsLegalShape → AllByRecursion (λ lined. IsLegalEvent (tables_in forms) lined.event) more → length more ≤ 1 → count + 1 ≤ most_lines
+    → IfSome (first_of (filter_map shape_in (forms ++ form ∷ []))) IsLegalShape → AllByRecursion (λ lined. IsLegalEvent (tables_in forms) (nodes_in (forms ++ form ∷ [])) lined.event) (events ++ more) → length more ≤ 1 → count + 1 ≤ most_lines
     → sum_by (λ lined. changes_in_event lined.event) more ≡ changes_in_form form → sum_by changes_in_form forms + changes_in_form form ≤ most_changes
     → Keeps (forms ++ form ∷ []) (events ++ more) (count + 1)
 keeps_form forms events more count form keeps none shape legal one lines counted room =
@@ -105,13 +105,22 @@ keeps_form forms events more count form keeps none shape legal one lines counted
       shape = shape;
       few_tables = subst (λ (tables : List Schema). length tables ≤ most_tables) (sym same) keeps.few_tables;
       tables = subst (λ (tables : List Schema). AllByRecursion IsLegalTable tables) (sym same) keeps.tables;
-      events = subst (λ (tables : List Schema). AllByRecursion (λ lined. IsLegalEvent tables lined.event) (events ++ more)) (sym same)
-          (all_append (λ lined. IsLegalEvent (tables_in forms) lined.event) events more keeps.events legal);
+      events = subst (λ (tables : List Schema). AllByRecursion (λ lined. IsLegalEvent tables (nodes_in (forms ++ form ∷ [])) lined.event) (events ++ more)) (sym same) legal;
       changes = omega (arith, room, sum_by-append changes_in_form forms (form ∷ []));
       counted = omega (arith, keeps.counted, counted, sum_by-append (λ (lined : LinedEvent). changes_in_event lined.event) events more, sum_by-append changes_in_form forms (form ∷ []));
       few = omega (arith, length-append events more, keeps.few, one);
       lines = lines;
     }
+
+-- the events so far and more, where a form leaves the shape
+events_and : (forms : List Form) (form : Form) (events more : List LinedEvent) → shape_in form ≡ None → AllByRecursion (λ lined. IsLegalEvent (tables_in forms) (nodes_in forms) lined.event) events
+    → AllByRecursion (λ lined. IsLegalEvent (tables_in forms) (nodes_in forms) lined.event) more → AllByRecursion (λ lined. IsLegalEvent (tables_in forms) (nodes_in (forms ++ form ∷ [])) lined.event) (events ++ more)
+events_and forms form events more none before legal =
+    subst (λ (shapes : List SiteSetup). AllByRecursion (λ lined. IsLegalEvent (tables_in forms) (option_map_or (λ (shape : SiteSetup). shape.groups * shape.replicas) (first_of shapes) 1) lined.event) (events ++ more)) (sym (same_shapes forms form none))
+    (all_append (λ lined. IsLegalEvent (tables_in forms) (nodes_in forms) lined.event) events more before legal)
+
+no_event_legal : (P : LinedEvent → Type 0) (events : List LinedEvent) → events ≡ [] → AllByRecursion P (events ++ [])
+no_event_legal P events none = subst (λ (all : List LinedEvent). AllByRecursion P (all ++ [])) (sym none) tt
 
 keeps_table : (forms : List Form) (events : List LinedEvent) (count : ℕ) (name : List ℕ) (columns : List Column) → Keeps forms events count → events ≡ [] → IsLegalTable (record { name = name; columns = columns })
     → length (tables_in forms) + 1 ≤ most_tables → count + 1 ≤ most_lines → Keeps (forms ++ TableLine name columns ∷ []) [] (count + 1)
@@ -189,6 +198,7 @@ so_far_more readings (Says (SiteLine site groups replicas limit)) so fine said =
     let groups_in = and_parts (nat_le 1 groups) (nat_le groups most_groups) (not-false (nat_le 1 groups && nat_le groups most_groups) within.1) in
     let replicas_in = and_parts (nat_le 1 replicas) (nat_le replicas most_replicas) (not-false (nat_le 1 replicas && nat_le replicas most_replicas) within.2) in
     let none = none_given shape_in forms (or_right (list_any is_event forms) (list_any (λ form. is_some (shape_in form)) forms) placed) in
+    let quiet : list_any is_event forms ≡ false = or_left (list_any is_event forms) (list_any (λ form. is_some (shape_in form)) forms) placed in
     let shape : IsLegalShape (record { groups = groups; replicas = replicas; limit = limit }) = record {
       groups = (leb-true 1 groups groups_in.0, leb-true groups most_groups groups_in.1);
       replicas = (leb-true 1 replicas replicas_in.0, leb-true replicas most_replicas replicas_in.1);
@@ -198,7 +208,7 @@ so_far_more readings (Says (SiteLine site groups replicas limit)) so fine said =
     (events_behind readings (Says form) form [] refl (events_more (tables_in forms) readings (Says form)))
     (keeps_form forms (events_of (tables_in forms) readings) [] (length readings) form so refl
     (subst (λ (shapes : List SiteSetup). IfSome (first_of shapes) IsLegalShape) (sym (filter_map-append shape_in forms (form ∷ []) ∙ ap (λ (shapes : List SiteSetup). shapes ++ filter_map shape_in (form ∷ [])) none)) shape)
-    tt (omega arith) (ltb-false most_lines (length readings + 1) within.0) refl (omega (arith, so.changes)))
+    (no_event_legal _ (events_of (tables_in forms) readings) (no_events (tables_in forms) readings 0 quiet)) (omega arith) (ltb-false most_lines (length readings + 1) within.0) refl (omega (arith, so.changes)))
 so_far_more readings (Says (TableLine name columns)) so fine said =
     let form = TableLine name columns in
     let forms = forms_of readings in
@@ -215,25 +225,25 @@ so_far_more readings (Says (TxLine site operations)) so fine said =
     let form = TxLine site operations in
     let forms = forms_of readings in
     let placed = not_misplaced forms (length readings + 1) form fine in
-    let within = none_passed (nat_lt most_lines (length readings + 1)) (nat_lt most_tx_changes (length operations)) (nat_lt most_changes (sum_by changes_in_form forms + length operations)) (nat_lt most_work (work_of forms + length operations))
+    let within = none_passed (nat_lt most_lines (length readings + 1)) (nat_lt most_tx_changes (length operations)) (nat_lt most_changes (sum_by changes_in_form forms + length operations)) (nat_lt most_work (work_of (forms ++ form ∷ [])))
     limits.Lines limits.TxChanges limits.Changes limits.Work (within_limits forms (length readings + 1) form fine) in
     let lined : LinedEvent = record { line = length readings + 1; event = Tx site (map (client_op (tables_in forms)) operations) } in
     to_so_far readings (Says form) (forms ++ form ∷ []) (events_of (tables_in forms) readings ++ lined ∷ []) (forms_more readings (Says form))
     (events_behind readings (Says form) form (lined ∷ []) refl (events_more (tables_in forms) readings (Says form)))
     (keeps_form forms (events_of (tables_in forms) readings) (lined ∷ []) (length readings) form so refl
     (subst (λ (shapes : List SiteSetup). IfSome (first_of shapes) IsLegalShape) (sym (same_shapes forms form refl)) so.shape)
-    ((said, operations_legal (tables_in forms) operations (not-false (list_all (suits_tables (tables_in forms)) operations) placed)), tt) (omega arith) (ltb-false most_lines (length readings + 1) within.0)
+    (events_and forms form (events_of (tables_in forms) readings) (lined ∷ []) refl so.events ((said, operations_legal (tables_in forms) operations (not-false (list_all (suits_tables (tables_in forms)) operations) placed)), tt)) (omega arith) (ltb-false most_lines (length readings + 1) within.0)
     (omega (arith, length-map operations (client_op (tables_in forms)))) (ltb-false most_changes (sum_by changes_in_form forms + length operations) within.2))
 so_far_more readings (Says (EventLine event)) so fine said =
     let form = EventLine event in
     let forms = forms_of readings in
-    let within = first_not_passed (nat_lt most_lines (length readings + 1)) (nat_lt most_work (work_of forms + 32 * closes_in_form form)) limits.Lines limits.Work (within_limits forms (length readings + 1) form fine) in
+    let within = first_not_passed (nat_lt most_lines (length readings + 1)) (nat_lt most_work (work_of (forms ++ form ∷ []))) limits.Lines limits.Work (within_limits forms (length readings + 1) form fine) in
     let lined : LinedEvent = record { line = length readings + 1; event = event } in
     to_so_far readings (Says form) (forms ++ form ∷ []) (events_of (tables_in forms) readings ++ lined ∷ []) (forms_more readings (Says form))
     (events_behind readings (Says form) form (lined ∷ []) refl (events_more (tables_in forms) readings (Says form)))
     (keeps_form forms (events_of (tables_in forms) readings) (lined ∷ []) (length readings) form so refl
     (subst (λ (shapes : List SiteSetup). IfSome (first_of shapes) IsLegalShape) (sym (same_shapes forms form refl)) so.shape)
-    (said.0 (tables_in forms), tt) (omega arith) (ltb-false most_lines (length readings + 1) within) (omega (arith, said.1)) (omega (arith, so.changes)))
+    (events_and forms form (events_of (tables_in forms) readings) (lined ∷ []) refl so.events (said.0 (tables_in forms) (nodes_in forms) (not_misplaced forms (length readings + 1) form fine), tt)) (omega arith) (ltb-false most_lines (length readings + 1) within) (omega (arith, said.1)) (omega (arith, so.changes)))
 
 abbrev refusal_in : List Reading → ℕ × Reading → Option BadLine
 refusal_in all numbered = refusal_of_line (filter_map form_in (take numbered.0 all)) (numbered.0 + 1) numbered.1
@@ -263,6 +273,11 @@ shape_legal : (shape : Option SiteSetup) → IfSome shape IsLegalShape → IsLeg
 shape_legal None legal = record { groups = (omega arith, omega arith); replicas = (omega arith, omega arith); limit = refl }
 shape_legal (Some shape) legal = legal
 
+-- as many nodes as its setup says
+nodes_of_shape : (shape : Option SiteSetup) → option_map_or (λ (shape : SiteSetup). shape.groups * shape.replicas) shape 1 ≡ (option_map_or (λ shape. shape) shape default_site).groups * (option_map_or (λ shape. shape) shape default_site).replicas
+nodes_of_shape None = refl
+nodes_of_shape (Some shape) = refl
+
 legal_so_far : (readings : List Reading) → SoFar readings → IsLegal (script_in readings)
 legal_so_far readings so =
     let shape = shape_legal (first_of (filter_map shape_in (forms_of readings))) so.shape in
@@ -272,7 +287,7 @@ legal_so_far readings so =
       limit = shape.limit;
       few_tables = so.few_tables;
       tables = so.tables;
-      events = so.events;
+      events = subst (λ (nodes : ℕ). AllByRecursion (λ lined. IsLegalEvent (tables_in (forms_of readings)) nodes lined.event) (events_of (tables_in (forms_of readings)) readings)) (nodes_of_shape (first_of (filter_map shape_in (forms_of readings)))) so.events;
       few_events = omega (arith, so.few, so.lines);
       few_changes = omega (arith, so.counted, so.changes);
     }

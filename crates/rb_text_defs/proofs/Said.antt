@@ -2,8 +2,8 @@
 use Rattle.std.proofs.Common.{◌≡◌, ℕ, ◌≤◌, Bool, true, false, List, [], ◌∷◌, length, map, Option, Some, None, refl}
 use Rattle.std.specs.Prelude.{nat_le, ◌&&◌, if◌then◌else◌, codes, ⊤, IfSome}
 use Rattle.std.specs.List.{AllByRecursion, list_all, slice_split}
-use Rattle.std.specs.Option.{option_map}
-use Rattle.std.proofs.lemmas.Bool.{leb-true, and_parts}
+use Rattle.std.specs.Option.{option_map, option_map_or}
+use Rattle.std.proofs.lemmas.Bool.{leb-true, leb-false, and_parts}
 use Rattle.rb_base.specs.declared.site.SiteId.{SiteId}
 use Rattle.rb_base.specs.declared.site.SiteId.TheVariants.{A}
 use Rattle.rb_base.specs.declared.schema.Column.{Column}
@@ -12,7 +12,8 @@ use Rattle.rb_base.specs.declared.schema.Schema.{Schema}
 use Rattle.rb_base.specs.declared.script.Event.{Event}
 use Rattle.rb_base.specs.declared.script.Event.TheVariants as events
 use Rattle.rb_text_defs.specs.Words.{Word, Plain, Quoted, ◌>>=◌, all_of, begins_with, is_letter, is_name, is_name_byte, name_of, number_of, words_of, is_line_byte, is_skipped}
-use Rattle.rb_text_defs.specs.Form.{Form, SiteLine, TableLine, TxLine, EventLine, Reading, Wrong, Skipped, Says, deliver_line, form_from, form_of, is_word, operation_of, reading_of, says, site_event, site_line, site_of, small_number_of, table_line, tx_line, type_of}
+use Rattle.rb_text_defs.specs.Form.{Form, SiteLine, TableLine, TxLine, EventLine, Reading, Wrong, Skipped, Says, deliver_line, form_from, form_of, is_word, operation_of, reading_of, says, node_event, site_event, site_line, site_of, small_number_of, table_line, tx_line, type_of}
+use Rattle.rb_text_defs.specs.Script.{node_in}
 use Rattle.rb_text_defs.specs.Legal.{IsLegalEvent, changes_in_event}
 
 -- what a form keeps to: a name's length, numbers for columns, site A, and no changes outside transactions
@@ -20,7 +21,7 @@ abbrev pub IsSaid : Form → Type 0
 IsSaid (SiteLine site groups replicas limit) = ⊤
 IsSaid (TableLine name columns) = (length name ≤ 32) × AllByRecursion (λ column. column ≡ Num) columns
 IsSaid (TxLine site operations) = site ≡ A
-IsSaid (EventLine event) = ((tables : List Schema) → IsLegalEvent tables event) × (changes_in_event event ≡ 0)
+IsSaid (EventLine event) = ((tables : List Schema) (nodes : ℕ) → option_map_or (nat_le nodes) (node_in event) false ≡ false → IsLegalEvent tables nodes event) × (changes_in_event event ≡ 0)
 
 if_bound : {X Y : Type 0} (P : X → Type 0) (Q : Y → Type 0) (value : Option X) (next : X → Option Y) → IfSome value P → ((x : X) → P x → IfSome (next x) Q) → IfSome (value >>= next) Q
 if_bound P Q None next here then' = tt
@@ -94,7 +95,7 @@ tx_line_said (site ∷ words) =
     if_bound (λ site. site ≡ A) IsSaid (site_of site) _ (site_said site) (λ id is.
     if_bound (λ x. ⊤) IsSaid (all_of (map operation_of (slice_split (is_word (codes ";")) words))) _ (if_any (all_of (map operation_of (slice_split (is_word (codes ";")) words)))) (λ operations _. is))
 
-site_event_said : (event : SiteId → Event) → ((site : SiteId) → site ≡ A → ((tables : List Schema) → IsLegalEvent tables (event site)) × (changes_in_event (event site) ≡ 0)) → (words : List Word) → IfSome (site_event event words) IsSaid
+site_event_said : (event : SiteId → Event) → ((site : SiteId) → site ≡ A → ((tables : List Schema) (nodes : ℕ) → option_map_or (nat_le nodes) (node_in (event site)) false ≡ false → IsLegalEvent tables nodes (event site)) × (changes_in_event (event site) ≡ 0)) → (words : List Word) → IfSome (site_event event words) IsSaid
 unfolding site_event
 site_event_said event legal [] = tt
 site_event_said event legal (site ∷ []) = if_mapped (λ site. site ≡ A) IsSaid (λ id. EventLine (event id)) (site_of site) (site_said site) legal
@@ -108,7 +109,17 @@ deliver_line_said (site ∷ what ∷ next ∷ words) = tt
 deliver_line_said (site ∷ what ∷ []) =
     if_bound (λ site. site ≡ A) IsSaid (site_of site) _ (site_said site) (λ id is.
     if_chosen IsSaid (is_word (codes "all") what) (Some (EventLine (events.DeliverAll id))) (option_map (λ place. EventLine (events.Deliver id place)) (number_of what))
-    ((λ tables. is), refl) (if_mapped (λ x. ⊤) IsSaid (λ place. EventLine (events.Deliver id place)) (number_of what) (if_any (number_of what)) (λ place _. ((λ tables. is), refl))))
+    ((λ tables nodes within. is), refl) (if_mapped (λ x. ⊤) IsSaid (λ place. EventLine (events.Deliver id place)) (number_of what) (if_any (number_of what)) (λ place _. ((λ tables nodes within. is), refl))))
+
+node_event_said : (event : SiteId → ℕ → Event) → ((site : SiteId) (node : ℕ) → site ≡ A → ((tables : List Schema) (nodes : ℕ) → option_map_or (nat_le nodes) (node_in (event site node)) false ≡ false → IsLegalEvent tables nodes (event site node)) × (changes_in_event (event site node) ≡ 0)) →
+    (words : List Word) → IfSome (node_event event words) IsSaid
+unfolding node_event
+node_event_said event legal [] = tt
+node_event_said event legal (site ∷ []) = tt
+node_event_said event legal (site ∷ node ∷ next ∷ words) = tt
+node_event_said event legal (site ∷ node ∷ []) =
+    if_bound (λ site. site ≡ A) IsSaid (site_of site) _ (site_said site) (λ id is.
+    if_bound (λ x. ⊤) IsSaid (small_number_of node) _ (if_any (small_number_of node)) (λ number _. legal id number is))
 
 form_from_said : (first : Word) (words : List Word) → IfSome (form_from first words) IsSaid
 unfolding form_from
@@ -116,11 +127,14 @@ form_from_said first words =
     if_chosen IsSaid (is_word (codes "site") first) (site_line words) _ (site_line_said words)
     (if_chosen IsSaid (is_word (codes "table") first) (table_line words) _ (table_line_said words)
     (if_chosen IsSaid (is_word (codes "tx") first) (tx_line words) _ (tx_line_said words)
-    (if_chosen IsSaid (is_word (codes "epoch") first) (site_event (λ site. events.Close site false) words) _ (site_event_said (λ site. events.Close site false) (λ site is. ((λ tables. is), refl)) words)
-    (if_chosen IsSaid (is_word (codes "gcp") first) (site_event (λ site. events.Close site true) words) _ (site_event_said (λ site. events.Close site true) (λ site is. ((λ tables. is), refl)) words)
+    (if_chosen IsSaid (is_word (codes "epoch") first) (site_event (λ site. events.Close site false) words) _ (site_event_said (λ site. events.Close site false) (λ site is. ((λ tables nodes within. is), refl)) words)
+    (if_chosen IsSaid (is_word (codes "gcp") first) (site_event (λ site. events.Close site true) words) _ (site_event_said (λ site. events.Close site true) (λ site is. ((λ tables nodes within. is), refl)) words)
     (if_chosen IsSaid (is_word (codes "deliver") first) (deliver_line words) _ (deliver_line_said words)
-    (if_chosen IsSaid (is_word (codes "inject") first) (site_event (λ site. events.Inject site) words) _ (site_event_said (λ site. events.Inject site) (λ site is. ((λ tables. is), refl)) words)
-    (if_chosen IsSaid (is_word (codes "log") first) (site_event (λ site. events.Log site) words) None (site_event_said (λ site. events.Log site) (λ site is. ((λ tables. is), refl)) words) tt)))))))
+    (if_chosen IsSaid (is_word (codes "inject") first) (site_event (λ site. events.Inject site) words) _ (site_event_said (λ site. events.Inject site) (λ site is. ((λ tables nodes within. is), refl)) words)
+    (if_chosen IsSaid (is_word (codes "log") first) (site_event (λ site. events.Log site) words) _ (site_event_said (λ site. events.Log site) (λ site is. ((λ tables nodes within. is), refl)) words)
+    (if_chosen IsSaid (is_word (codes "fail") first) (node_event (λ site node. events.Fail site node) words) _ (node_event_said (λ site node. events.Fail site node) (λ site node is. ((λ tables nodes within. (is, leb-false nodes node within)), refl)) words)
+    (if_chosen IsSaid (is_word (codes "restart") first) (node_event (λ site node. events.Restart site node) words) _ (node_event_said (λ site node. events.Restart site node) (λ site node is. ((λ tables nodes within. (is, leb-false nodes node within)), refl)) words)
+    (if_chosen IsSaid (is_word (codes "resend") first) (site_event (λ site. events.Resend site) words) None (site_event_said (λ site. events.Resend site) (λ site is. ((λ tables nodes within. is), refl)) words) tt))))))))))
 
 form_said : (words : List Word) → IfSome (form_of words) IsSaid
 unfolding form_of

@@ -116,6 +116,14 @@ deliver_line (site ∷ what ∷ []) = do
       else option_map (λ place. EventLine (events.Deliver id place)) (number_of what)
 deliver_line words = None
 
+-- the event of a line that has a site and a node
+unfoldable pub node_event : (SiteId → ℕ → Event) → List Word → Option Form
+node_event event (site ∷ node ∷ []) = do
+  id ← site_of site
+  number ← small_number_of node
+  Some (EventLine (event id number))
+node_event event words = None
+
 -- the form of a line whose first word is this one
 unfoldable pub form_from : (first : Word) → List Word → Option Form
 form_from first words =
@@ -127,7 +135,10 @@ form_from first words =
     else (if is_word (codes "deliver") first then deliver_line words
     else (if is_word (codes "inject") first then site_event (λ site. events.Inject site) words
     else (if is_word (codes "log") first then site_event (λ site. events.Log site) words
-    else None)))))))
+    else (if is_word (codes "fail") first then node_event (λ site node. events.Fail site node) words
+    else (if is_word (codes "restart") first then node_event (λ site node. events.Restart site node) words
+    else (if is_word (codes "resend") first then site_event (λ site. events.Resend site) words
+    else None))))))))))
 
 -- the form of a line of these words
 unfoldable pub form_of : List Word → Option Form

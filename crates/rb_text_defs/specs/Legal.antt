@@ -1,5 +1,5 @@
 -- What a legal script keeps to: the limits, and operations that suit the tables.
-use Rattle.std.specs.Prelude.{◌≡◌, ℕ, ◌-◌, ◌≤◌, true, List, [], ◌∷◌, length, sum_by, Option, Some, None}
+use Rattle.std.specs.Prelude.{◌≡◌, ℕ, ◌-◌, ◌*◌, ◌<◌, ◌≤◌, true, List, [], ◌∷◌, length, sum_by, Option, Some, None}
 use Rattle.std.specs.List.{AllByRecursion, slice_get}
 use Rattle.std.specs.Option.{option_map_or}
 use Rattle.rb_base.specs.declared.site.SiteId.TheVariants.{A}
@@ -45,15 +45,18 @@ pub record IsLegalOperation (tables : List Schema) (operation : ClientOp) : Type
   pub declared : operation.table ≤ length tables
   pub row : HasLegalRow operation.op (columns_at tables operation.table) operation.key operation.row
 
--- an event that runs
-abbrev pub IsLegalEvent : List Schema → Event → Type 0
-IsLegalEvent tables (events.Tx site operations) = (site ≡ A) × AllByRecursion (IsLegalOperation tables) operations
-IsLegalEvent tables (events.Close site gci) = site ≡ A
-IsLegalEvent tables (events.Deliver site place) = site ≡ A
-IsLegalEvent tables (events.DeliverAll site) = site ≡ A
-IsLegalEvent tables (events.Inject site) = site ≡ A
-IsLegalEvent tables (events.Log site) = site ≡ A
-IsLegalEvent tables event = ⊥
+-- an event that runs, at a site of so many nodes
+abbrev pub IsLegalEvent : List Schema → (nodes : ℕ) → Event → Type 0
+IsLegalEvent tables nodes (events.Tx site operations) = (site ≡ A) × AllByRecursion (IsLegalOperation tables) operations
+IsLegalEvent tables nodes (events.Close site gci) = site ≡ A
+IsLegalEvent tables nodes (events.Deliver site place) = site ≡ A
+IsLegalEvent tables nodes (events.DeliverAll site) = site ≡ A
+IsLegalEvent tables nodes (events.Inject site) = site ≡ A
+IsLegalEvent tables nodes (events.Log site) = site ≡ A
+IsLegalEvent tables nodes (events.Fail site node) = (site ≡ A) × (node < nodes)
+IsLegalEvent tables nodes (events.Restart site node) = (site ≡ A) × (node < nodes)
+IsLegalEvent tables nodes (events.Resend site) = site ≡ A
+IsLegalEvent tables nodes event = ⊥
 
 -- how many changes an event may make
 abbrev pub changes_in_event : Event → ℕ
@@ -67,6 +70,6 @@ pub record IsLegal (script : Script) : Type 0 where
   pub limit : script.setup.a.limit ≡ default_limit
   pub few_tables : length script.setup.tables ≤ most_tables
   pub tables : AllByRecursion IsLegalTable script.setup.tables
-  pub events : AllByRecursion (λ lined. IsLegalEvent script.setup.tables lined.event) script.events
+  pub events : AllByRecursion (λ lined. IsLegalEvent script.setup.tables (script.setup.a.groups * script.setup.a.replicas) lined.event) script.events
   pub few_events : length script.events ≤ most_lines
   pub few_changes : sum_by (λ lined. changes_in_event lined.event) script.events ≤ most_changes

@@ -1,5 +1,5 @@
 -- The script: what its lines say together, and the first one that is refused.
-use Rattle.std.specs.Prelude.{ℕ, ◌+◌, ◌*◌, ◌==◌, nat_le, nat_lt, ◌&&◌, ◌||◌, not, Bool, true, false, if◌then◌else◌, List, [], ◌∷◌, length, map, filter_map, take, sum_by, Option, Some, None, is_some, Result, Ok, Err}
+use Rattle.std.specs.Prelude.{ℕ, ◌+◌, ◌*◌, ◌==◌, nat_le, nat_lt, ◌&&◌, ◌||◌, not, Bool, true, false, if◌then◌else◌, List, [], ◌∷◌, ◌++◌, length, map, filter_map, take, sum_by, Option, Some, None, is_some, Result, Ok, Err}
 use Rattle.std.specs.Str.{bytes_eq}
 use Rattle.std.specs.List.{find, list_any, list_all, enumerate_from, position}
 use Rattle.std.specs.Option.{option_map, option_map_or, option_and_then}
@@ -134,12 +134,22 @@ is_named name table = bytes_eq table.name name
 abbrev pub suits_tables : List Schema → Operation → Bool
 suits_tables tables operation = option_map_or (suits_table operation) (find (is_named operation.table) tables) false
 
+-- the node that an event names
+abbrev pub node_in : Event → Option ℕ
+node_in (events.Fail site node) = Some node
+node_in (events.Restart site node) = Some node
+node_in event = None
+
+-- how many nodes the site has
+abbrev pub nodes_in : List Form → ℕ
+nodes_in forms = option_map_or (λ (shape : SiteSetup). shape.groups * shape.replicas) (first_of (filter_map shape_in forms)) 1
+
 -- a line does not fit the lines before it
 abbrev pub is_misplaced : (earlier : List Form) → Form → Bool
 is_misplaced earlier (SiteLine site groups replicas limit) = list_any is_event earlier || list_any (λ form. is_some (shape_in form)) earlier
 is_misplaced earlier (TableLine name columns) = list_any is_event earlier || list_any (is_named name) (tables_in earlier)
 is_misplaced earlier (TxLine site operations) = not (list_all (suits_tables (tables_in earlier)) operations)
-is_misplaced earlier (EventLine event) = false
+is_misplaced earlier (EventLine event) = option_map_or (nat_le (nodes_in earlier)) (node_in event) false
 
 -- how many bytes a column takes in a row at most: a text has a length before it
 abbrev pub column_bytes : Column → ℕ
@@ -163,9 +173,16 @@ abbrev pub closes_in_form : Form → ℕ
 closes_in_form (EventLine (events.Close site gci)) = 1
 closes_in_form form = 0
 
--- how much work forms are
+-- how many times it makes nodes begin again: a node fails or starts, or all owners send again
+abbrev pub restarts_in_form : Form → ℕ
+restarts_in_form (EventLine (events.Fail site node)) = 1
+restarts_in_form (EventLine (events.Restart site node)) = 1
+restarts_in_form (EventLine (events.Resend site)) = 1
+restarts_in_form form = 0
+
+-- how much work forms are: all changes and closes, 32 for each close, as often as all may be sent
 abbrev pub work_of : List Form → ℕ
-work_of forms = sum_by changes_in_form forms + 32 * sum_by closes_in_form forms
+work_of forms = (1 + sum_by restarts_in_form forms) * (sum_by changes_in_form forms + 32 * sum_by closes_in_form forms)
 
 -- the limits that a form may pass, in the order in which they are judged, each with whether it passes it behind these earlier ones
 abbrev pub limits_of_form : (earlier : List Form) → Form → List (Bool × Limit)
@@ -180,9 +197,9 @@ limits_of_form earlier (TableLine name columns) =
 limits_of_form earlier (TxLine site operations) =
     (nat_lt most_tx_changes (length operations), limits.TxChanges)
     ∷ (nat_lt most_changes (sum_by changes_in_form earlier + length operations), limits.Changes)
-    ∷ (nat_lt most_work (work_of earlier + length operations), limits.Work) ∷ []
+    ∷ (nat_lt most_work (work_of (earlier ++ TxLine site operations ∷ [])), limits.Work) ∷ []
 limits_of_form earlier (EventLine event) =
-    (nat_lt most_work (work_of earlier + 32 * closes_in_form (EventLine event)), limits.Work) ∷ []
+    (nat_lt most_work (work_of (earlier ++ EventLine event ∷ [])), limits.Work) ∷ []
 
 -- the first limit that the line of this number passes
 abbrev pub limit_passed : (earlier : List Form) → (number : ℕ) → Form → Option Limit

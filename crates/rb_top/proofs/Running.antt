@@ -108,9 +108,9 @@ logged_as shape run new file first second outcome delivered wrote is =
     (wrote.0, is ∙ ap (λ o. joined o second) delivered ∙ ap (joined (site_step shape run happenings.DeliverAll).outcome) wrote.1)
 
 -- one event more is played
-pub play_more : (shape : Shape) (lined : List LinedEvent) (event : LinedEvent) → play_of shape (lined ++ event ∷ []) ≡ played_on shape (play_of shape lined) event
+pub play_more : (setup : Setup) (lined : List LinedEvent) (event : LinedEvent) → play_of setup (lined ++ event ∷ []) ≡ played_on (shape_of setup) (play_of setup lined) event
 unfolding play_of
-play_more shape lined event = fold-append (played_on shape) not_played lined (event ∷ [])
+play_more setup lined event = fold-append (played_on (shape_of setup)) (not_played setup) lined (event ∷ [])
 
 -- the events behind one more
 pub whole_more : (all done rest later : List LinedEvent) (lined : LinedEvent) → all ≡ done ++ rest → rest ≡ lined ∷ later → all ≡ (done ++ lined ∷ []) ++ later
@@ -123,26 +123,33 @@ told_more outcomes line outcome =
     ∙ ap (λ (text : List ℕ). told outcomes ++ text) (append-nil (outcome_line line outcome ++ 10 ∷ []))
 
 -- a site and the text at the start
-pub starts : (setup : Setup) (schemas : List Schema) (site : Site) (file : List ℕ) → schemas ≡ setup.tables → IsSite (site_shape schemas setup.a.groups setup.a.replicas) site file beginning → IsSite (shape_of setup) site file (play_of (shape_of setup) []).run
+pub starts : (setup : Setup) (schemas : List Schema) (site : Site) (file : List ℕ) → schemas ≡ setup.tables → IsSite (site_shape schemas setup.a.groups setup.a.replicas) site file (beginning setup.a.groups setup.a.replicas) → IsSite (shape_of setup) site file (play_of setup []).run
 unfolding play_of
-starts setup schemas site file same held = subst (λ (tables : List Schema). IsSite (site_shape tables setup.a.groups setup.a.replicas) site file beginning) same held
+starts setup schemas site file same held = subst (λ (tables : List Schema). IsSite (site_shape tables setup.a.groups setup.a.replicas) site file (beginning setup.a.groups setup.a.replicas)) same held
 
-pub told_nothing : (shape : Shape) (text : List ℕ) → text ≡ text ++ told (play_of shape []).outcomes
+pub told_nothing : (setup : Setup) (text : List ℕ) → text ≡ text ++ told (play_of setup []).outcomes
 unfolding play_of
-told_nothing shape text = sym (append-nil text)
+told_nothing setup text = sym (append-nil text)
 
 -- and an event later
-pub stands_more : (shape : Shape) (lined : List LinedEvent) (event : LinedEvent) (new : Site) (file : List ℕ) → IsSite shape new file (event_step shape (play_of shape lined).run event.event).run → IsSite shape new file (play_of shape (lined ++ event ∷ [])).run
-stands_more shape lined event new file held = subst (λ (played : Played). IsSite shape new file played.run) (sym (play_more shape lined event)) held
+pub stands_more : (setup : Setup) (lined : List LinedEvent) (event : LinedEvent) (new : Site) (file : List ℕ) → IsSite (shape_of setup) new file (event_step (shape_of setup) (play_of setup lined).run event.event).run → IsSite (shape_of setup) new file (play_of setup (lined ++ event ∷ [])).run
+stands_more setup lined event new file held = subst (λ (played : Played). IsSite (shape_of setup) new file played.run) (sym (play_more setup lined event)) held
 
-pub text_more : (shape : Shape) (lined : List LinedEvent) (event : LinedEvent) (outcome : Outcome) (start text : List ℕ) → outcome ≡ (event_step shape (play_of shape lined).run event.event).outcome → text ≡ start ++ told (play_of shape lined).outcomes → text ++ (outcome_line event.line outcome ++ 10 ∷ []) ≡ start ++ told (play_of shape (lined ++ event ∷ [])).outcomes
-text_more shape lined event outcome start text is so_far =
+pub text_more : (setup : Setup) (lined : List LinedEvent) (event : LinedEvent) (outcome : Outcome) (start text : List ℕ) → outcome ≡ (event_step (shape_of setup) (play_of setup lined).run event.event).outcome → text ≡ start ++ told (play_of setup lined).outcomes →
+    text ++ (outcome_line event.line outcome ++ 10 ∷ []) ≡ start ++ told (play_of setup (lined ++ event ∷ [])).outcomes
+text_more setup lined event outcome start text is so_far =
     ap (λ (t : List ℕ). t ++ (outcome_line event.line outcome ++ 10 ∷ [])) so_far
-    ∙ append_assoc start (told (play_of shape lined).outcomes) (outcome_line event.line outcome ++ 10 ∷ [])
+    ∙ append_assoc start (told (play_of setup lined).outcomes) (outcome_line event.line outcome ++ 10 ∷ [])
     ∙ ap (λ (t : List ℕ). start ++ t)
-    (ap (λ o. told (play_of shape lined).outcomes ++ (outcome_line event.line o ++ 10 ∷ [])) is
-    ∙ sym (told_more (play_of shape lined).outcomes event.line (event_step shape (play_of shape lined).run event.event).outcome)
-    ∙ ap (λ (played : Played). told played.outcomes) (sym (play_more shape lined event)))
+    (ap (λ o. told (play_of setup lined).outcomes ++ (outcome_line event.line o ++ 10 ∷ [])) is
+    ∙ sym (told_more (play_of setup lined).outcomes event.line (event_step (shape_of setup) (play_of setup lined).run event.event).outcome)
+    ∙ ap (λ (played : Played). told played.outcomes) (sym (play_more setup lined event)))
+
+-- where no event is left, the run is whole
+pub played_whole : (setup : Setup) (events done rest : List LinedEvent) (site : Site) (file : List ℕ) → events ≡ done ++ rest → rest ≡ [] → IsSite (shape_of setup) site file (play_of setup done).run →
+    IsSite (shape_of setup) site file (play (record { setup = setup; events = events })).run
+played_whole setup events done rest site file whole end held =
+    subst (λ (all : List LinedEvent). IsSite (shape_of setup) site file (play_of setup all).run) (sym (whole ∙ ap (λ (later : List LinedEvent). done ++ later) end ∙ append-nil done)) held
 
 -- what holds of all holds of those behind the first
 all_behind : {X : Type 0} (P : X → Type 0) (xs ys : List X) → AllByRecursion P (xs ++ ys) → AllByRecursion P ys
@@ -150,7 +157,7 @@ all_behind P [] ys all = all
 all_behind P (x ∷ xs) ys all = all_behind P xs ys all.1
 
 -- the room that an event needs is there
-room_here : (script : Script) (site : Site) (file : List ℕ) (run : Progress) (event : Event) (done : List LinedEvent) → IsSite (shape_of script.setup) site file run → IsLegalEvent script.setup.tables event → run.drawn ≤ length done → run.opened ≤ 4294967296 + 4294967296 * length done →
+room_here : (script : Script) (site : Site) (file : List ℕ) (run : Progress) (event : Event) (done : List LinedEvent) → IsSite (shape_of script.setup) site file run → IsLegalEvent script.setup.tables (script.setup.a.groups * script.setup.a.replicas) event → run.drawn ≤ length done → run.opened ≤ 4294967296 + 4294967296 * length done →
     changes_in_journal (shape_of script.setup) run.journal + changes_in_event event ≤ 400 → length done < 100000 → HasRoomFor (shape_of script.setup) site event
 room_here script site file run (events.Tx id operations) done held legal drawn opened changes few = record {
   fit = operations_fit script.setup.tables operations legal.1;
@@ -162,8 +169,9 @@ room_here script site file run (events.Deliver id place) done held legal drawn o
 room_here script site file run (events.DeliverAll id) done held legal drawn opened changes few = tt
 room_here script site file run (events.Inject id) done held legal drawn opened changes few = tt
 room_here script site file run (events.Log id) done held legal drawn opened changes few = tt
-room_here script site file run (events.Fail id node) done held legal drawn opened changes few = tt
-room_here script site file run (events.Restart id node) done held legal drawn opened changes few = tt
+room_here script site file run (events.Fail id node) done held legal drawn opened changes few = legal.1
+room_here script site file run (events.Restart id node) done held legal drawn opened changes few =
+    (legal.1, (let same : opened_of site ≡ run.opened = opened_is (shape_of script.setup) site file run held in omega arith))
 room_here script site file run (events.Resend id) done held legal drawn opened changes few = tt
 room_here script site file run (events.Injector id) done held legal drawn opened changes few = tt
 room_here script site file run (events.Piece id number position count) done held legal drawn opened changes few = tt
@@ -174,17 +182,18 @@ room_here script site file run (events.Applier id) done held legal drawn opened 
 room_here script site file run (events.Dump id) done held legal drawn opened changes few = tt
 room_here script site file run events.Drain done held legal drawn opened changes few = tt
 
-pub room_for : (script : Script) (site : Site) (file : List ℕ) (done : List LinedEvent) (lined : LinedEvent) (rest : List LinedEvent) → IsLegal script → script.events ≡ done ++ (lined ∷ rest) → IsSite (shape_of script.setup) site file (play_of (shape_of script.setup) done).run → HasRoomFor (shape_of script.setup) site lined.event
+pub room_for : (script : Script) (site : Site) (file : List ℕ) (done : List LinedEvent) (lined : LinedEvent) (rest : List LinedEvent) → IsLegal script → script.events ≡ done ++ (lined ∷ rest) → IsSite (shape_of script.setup) site file (play_of script.setup done).run → HasRoomFor (shape_of script.setup) site lined.event
 unfolding play_of
 room_for script site file done lined rest legal is held =
     let shape = shape_of script.setup in
-    let counts = counted shape not_played done in
-    let there = all_behind (λ (l : LinedEvent). IsLegalEvent script.setup.tables l.event) done (lined ∷ rest) (subst (AllByRecursion (λ (l : LinedEvent). IsLegalEvent script.setup.tables l.event)) is legal.events) in
+    let nodes : ℕ = script.setup.a.groups * script.setup.a.replicas in
+    let counts = counted shape (not_played script.setup) done in
+    let there = all_behind (λ (l : LinedEvent). IsLegalEvent script.setup.tables nodes l.event) done (lined ∷ rest) (subst (AllByRecursion (λ (l : LinedEvent). IsLegalEvent script.setup.tables nodes l.event)) is legal.events) in
     let many : length script.events ≡ length done + length (lined ∷ rest) = ap length is ∙ length-append done (lined ∷ rest) in
     let changes : sum_by (λ (l : LinedEvent). changes_in_event l.event) script.events ≡ sum_by (λ (l : LinedEvent). changes_in_event l.event) done + (changes_in_event lined.event + sum_by (λ (l : LinedEvent). changes_in_event l.event) rest) =
     ap (sum_by (λ (l : LinedEvent). changes_in_event l.event)) is ∙ sum_by-append (λ (l : LinedEvent). changes_in_event l.event) done (lined ∷ rest)
     ∙ ap (λ n. sum_by (λ (l : LinedEvent). changes_in_event l.event) done + n) (sum_by-cons (λ (l : LinedEvent). changes_in_event l.event) lined rest) in
-    room_here script site file (play_of shape done).run lined.event done held there.0
+    room_here script site file (play_of script.setup done).run lined.event done held there.0
     (let h = counts.drawn in omega arith) (let h = counts.opened in omega arith)
     (let h = counts.changes_are in let few = legal.few_changes in omega arith)
     (let few = legal.few_events in omega arith)
@@ -198,29 +207,29 @@ part_of_any bodies file fault (inl left) = inl left
 part_of_any bodies file fault (inr left) = inr (part_of_more 0 [] bodies file fault left)
 
 -- the bodies written so far are the first of those that the script writes
-pub begins_whole : (script : Script) (played : Played) (done rest : List LinedEvent) → script.events ≡ done ++ rest → play_of (shape_of script.setup) done ≡ played → IsSound (shape_of script.setup) played.run → Begins (written_bodies (shape_of script.setup) played.run) (log_of script)
+pub begins_whole : (script : Script) (played : Played) (done rest : List LinedEvent) → script.events ≡ done ++ rest → play_of script.setup done ≡ played → IsSound (shape_of script.setup) played.run → Begins (written_bodies (shape_of script.setup) played.run) (log_of script)
 unfolding play_of
 begins_whole script played done rest is so_far sound =
     let shape = shape_of script.setup in
     let ends : fold (played_on shape) played rest ≡ play script =
-    ap (λ (p : Played). fold (played_on shape) p rest) (sym so_far) ∙ sym (fold-append (played_on shape) not_played done rest) ∙ ap (fold (played_on shape) not_played) (sym is) in
+    ap (λ (p : Played). fold (played_on shape) p rest) (sym so_far) ∙ sym (fold-append (played_on shape) (not_played script.setup) done rest) ∙ ap (fold (played_on shape) (not_played script.setup)) (sym is) in
     subst (λ (p : Played). Begins (written_bodies shape played.run) (written_bodies shape p.run)) ends (goes_on shape played rest sound).grows
 
 -- a run that stopped in an event
-pub stopped_in : (script : Script) (site : Site) (before file : List ℕ) (fault : SiteFault) (done : List LinedEvent) (lined : LinedEvent) (rest : List LinedEvent) → script.events ≡ (done ++ lined ∷ []) ++ rest → IsSite (shape_of script.setup) site before (play_of (shape_of script.setup) done).run →
-    LeavesLog 0 (written_bodies (shape_of script.setup) (event_step (shape_of script.setup) (play_of (shape_of script.setup) done).run lined.event).run) file fault → LeavesPart (log_of script) file fault
+pub stopped_in : (script : Script) (site : Site) (before file : List ℕ) (fault : SiteFault) (done : List LinedEvent) (lined : LinedEvent) (rest : List LinedEvent) → script.events ≡ (done ++ lined ∷ []) ++ rest → IsSite (shape_of script.setup) site before (play_of script.setup done).run →
+    LeavesLog 0 (written_bodies (shape_of script.setup) (event_step (shape_of script.setup) (play_of script.setup done).run lined.event).run) file fault → LeavesPart (log_of script) file fault
 stopped_in script site before file fault done lined rest is held left =
     let shape = shape_of script.setup in
-    let next : Progress = (event_step shape (play_of shape done).run lined.event).run in
+    let next : Progress = (event_step shape (play_of script.setup done).run lined.event).run in
     inr (more_of (written_bodies shape next) (log_of script) file fault
-    (begins_whole script (played_on shape (play_of shape done) lined) (done ++ lined ∷ []) rest is (play_more shape done lined) (goes shape (play_of shape done).run lined.event held.sound).sound) left)
+    (begins_whole script (played_on shape (play_of script.setup done) lined) (done ++ lined ∷ []) rest is (play_more script.setup done lined) (goes shape (play_of script.setup done).run lined.event held.sound).sound) left)
 
 -- a run that stopped behind some of its events
-pub stopped_behind : (script : Script) (site : Site) (file : List ℕ) (fault : SiteFault) (done rest : List LinedEvent) → script.events ≡ done ++ rest → IsSite (shape_of script.setup) site file (play_of (shape_of script.setup) done).run → LeavesPart (log_of script) file fault
+pub stopped_behind : (script : Script) (site : Site) (file : List ℕ) (fault : SiteFault) (done rest : List LinedEvent) → script.events ≡ done ++ rest → IsSite (shape_of script.setup) site file (play_of script.setup done).run → LeavesPart (log_of script) file fault
 stopped_behind script site file fault done rest is held =
     let shape = shape_of script.setup in
-    inr (least_of_fewer (play_of shape done).run.written 0 (log_of script) file fault (omega arith)
-    (leaves_first shape site file (play_of shape done).run (log_of script) fault held (begins_whole script (play_of shape done) done rest is refl held.sound)))
+    inr (least_of_fewer (play_of script.setup done).run.written 0 (log_of script) file fault (omega arith)
+    (leaves_first shape site file (play_of script.setup done).run (log_of script) fault held (begins_whole script (play_of script.setup done) done rest is refl held.sound)))
 
 -- the whole of a run
 pub whole_behind : (script : Script) (site : Site) (file : List ℕ) (fault : SiteFault) → IsSite (shape_of script.setup) site file (play script).run → LeavesPart (log_of script) file fault

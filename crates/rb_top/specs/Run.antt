@@ -27,6 +27,9 @@ turn_of (events.Close id gci) = turns.Step (happenings.Close gci)
 turn_of (events.Deliver id place) = turns.Step (happenings.Deliver place)
 turn_of (events.DeliverAll id) = turns.Step happenings.DeliverAll
 turn_of (events.Inject id) = turns.Step happenings.Inject
+turn_of (events.Fail id node) = turns.Step (happenings.Fail node)
+turn_of (events.Restart id node) = turns.Step (happenings.Restart node)
+turn_of (events.Resend id) = turns.Step happenings.Resend
 turn_of (events.Log id) = turns.Log
 turn_of event = turns.Idle
 

@@ -98,12 +98,15 @@ fn turn_of(event: Event) -> Turn
         Event::Deliver(_, place) => Turn::Step(SiteEvent::Deliver(place)),
         Event::DeliverAll(_) => Turn::Step(SiteEvent::DeliverAll),
         Event::Inject(_) => Turn::Step(SiteEvent::Inject),
+        Event::Fail(_, node) => Turn::Step(SiteEvent::Fail(node)),
+        Event::Restart(_, node) => Turn::Step(SiteEvent::Restart(node)),
+        Event::Resend(_) => Turn::Step(SiteEvent::Resend),
         Event::Log(_) => Turn::Log,
         _ => Turn::Idle,
     }
 }
 
-// Every message that was never delivered is, and then the injector has its turn.
+// Every message that waits is delivered, and then the injector has its turn.
 fn log<D: LogDisk>(site: Site, disk: &mut D) -> Result<(Site, Outcome), SiteFault>
     requires stands { (shape : Shape) × (run : Progress) × IsSite shape site (D.seen disk.old 1) run }
     ensures played { IfOk result (λ pair. (shape : Shape) (run : Progress) → IsSite shape site (D.seen disk.old 1) run →

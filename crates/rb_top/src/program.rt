@@ -1,4 +1,4 @@
-ghost use Rattle.std.specs.Prelude.{◌≡◌, ◌≢◌, ◌↔◌, ◌⊎◌, ℕ, List, [], Some, Ok, Err, Bool, true, false, IfSome};
+ghost use Rattle.std.specs.Prelude.{◌≡◌, ◌≢◌, ◌↔◌, ◌⊎◌, ℕ, List, [], Some, Ok, Err, true, false, IfSome};
 ghost use Rattle.rb_base.specs.Faults.{Rose};
 ghost use Rattle.rb_text_defs.specs.declared.script.BadLine.{BadLine};
 ghost use Rattle.rb_text_defs.specs.declared.script.Script.{Script};

@@ -6,6 +6,7 @@ use std::alloc::Global;
 use std::test::Fail;
 use std::thread::Threads;
 
+mod failures;
 mod faults;
 mod refused;
 mod runs;

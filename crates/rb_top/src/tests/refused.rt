@@ -19,14 +19,14 @@ const LOG_LIMIT: ScriptKind = ScriptKind::Limit(Limit::LogLimit);
 const COLUMNS: ScriptKind = ScriptKind::Limit(Limit::Columns);
 
 /// Short scripts that are refused, each with its first bad line and what is wrong there.
-const REFUSED: [(&[u8], u32, ScriptKind); 36] = [
+const REFUSED: [(&[u8], u32, ScriptKind); 38] = [
     // Forms.
     (b"frob\n", 1, SYNTAX),
     (b"log A\n \tfrob", 2, SYNTAX),
     (b"deliver A 18446744073709551616\n", 1, SYNTAX),
     (b"deliver A 000000000000000000001\n", 1, SYNTAX),
     (b"deliver B 0\n", 1, SYNTAX),
-    (b"fail A 1\n", 1, SYNTAX),
+    (b"fail A\n", 1, SYNTAX),
     (b"# x\r\n\r\n\tfrob\r\n", 3, SYNTAX),
     (b"table abcdefghijklmnopqrstuvwxyz_123456 num\n", 1, SYNTAX),
     (b"table aB num\n", 1, SYNTAX),
@@ -50,6 +50,12 @@ const REFUSED: [(&[u8], u32, ScriptKind); 36] = [
     (b"table t num\ntx A ins u 1 1\n", 2, SETUP),
     (b"table t num\ntx A ins t 1\n", 2, SETUP),
     (b"table t num\ntx A ins t 1 \"2\"\n", 2, SETUP),
+    (b"fail A 1\n", 1, SETUP),
+    (
+        b"site A groups 2 replicas 2 limit 1048576\nrestart A 4\n",
+        2,
+        SETUP,
+    ),
     // Limits.
     (b"site A groups 9 replicas 1 limit 1048576\n", 1, GROUPS),
     (b"site A groups 0 replicas 1 limit 1048576\n", 1, GROUPS),
@@ -127,14 +133,16 @@ fn short_scripts(rt: HostRuntime) -> Result<(), Fail> {
     Ok(())
 }
 
-// The longest name, the largest number, the most types and the largest shape are accepted.
+// The longest name, the largest number, the most types, the largest shape and its last node are accepted.
 #[test]
 fn the_largest_words(rt: HostRuntime) -> Result<(), Fail> {
     let script =
         b"site A groups 8 replicas 4 limit 1048576\ntable abcdefghijklmnopqrstuvwxyz_12345 num\n\
-        table t num num num num num num num num num num num num num num num\ndeliver A 18446744073709551615\n";
+        table t num num num num num num num num num num num num num num num\ndeliver A 18446744073709551615\n\
+        fail A 31\n";
     let report = b"ndb replication report
 4 no message 18446744073709551615 0
+5 failed takeover=1 sent=0
 log A files=1 epochs=0 written=0
 table A abcdefghijklmnopqrstuvwxyz_12345 rows=0
 table A t rows=0

@@ -15,18 +15,18 @@ const NEXT: &str = "0100000001000000";
 
 const THIRD_NEXT: &str = "0300000001000000";
 
-fn check(rt: &impl Abort, left: &Left, report: &[u8], file: &[u8]) {
+pub(super) fn check(rt: &impl Abort, left: &Left, report: &[u8], file: &[u8]) {
     assert_eq!(rt; left.status, Status::Done);
     assert_eq!(rt; left.sink.bytes(), report);
     assert_eq!(rt; left.disk_a.file(1), file);
-    for other in [0, 2] {
-        assert!(rt;
-            left.disk_a.file(other).is_empty(),
-            "file {other} of site A"
-        );
-    }
-    for file in [0, 1, 2] {
-        assert!(rt; left.disk_b.file(file).is_empty(), "file {file} of site B");
+    are_empty(rt, &left.disk_a, &[0, 2]);
+    are_empty(rt, &left.disk_b, &[0, 1, 2]);
+}
+
+// These files of a device have nothing.
+fn are_empty(rt: &impl Abort, disk: &MemoryDisk, files: &[u32]) {
+    for file in files {
+        assert!(rt; disk.file(*file).is_empty(), "file {file}");
     }
 }
 

@@ -1,11 +1,31 @@
-use Rattle.std.proofs.Common.{◌≡◌, ℕ, ◌+◌, ◌<◌, ◌≤◌, ◌∙◌, sym, ap, subst, arith, length}
+use Rattle.std.proofs.Common.{◌≡◌, ℕ, ◌<◌, ◌∙◌, refl, sym, arith, length}
+use Rattle.std.specs.Prelude.{Option, Some, None, unwrap_or}
+use Rattle.std.specs.List.{slice_get}
 use Rattle.std.proofs.lemmas.List.{length-set}
-use Rattle.rb_base.specs.declared.change.Change.{Change}
-use Rattle.rb_bucket.specs.Bucket as node
+use Rattle.std.proofs.lemmas.Option.{slice_get_read, slice_get_within}
 use Rattle.rb_bucket.specs.declared.bucket.BucketBuffer.{BucketBuffer}
-use Rattle.rb_group.specs.Kept.{HoldsAll, with_one}
-use Rattle.rb_group.proofs.Holding.{todo_more, one_more, buckets_stay, holds_one}
+use Rattle.rb_group.specs.Kept.{HoldsNode, with_part}
+use Rattle.rb_group.proofs.Lists.{todo_next, done_next, there}
 use Rattle.rb_group.proofs.nodes.add_to_all.Goals as goal
+
+pub add_to_one-requires : goal.add_to_one-requires
+add_to_one-requires c =
+    let room = c.requires.room in
+    let before = c.loop-index.invariant in
+    let within : c.loop-index.index < length c.loop-index.buffers.items = omega (arith, c.loop-index-test.true, c.len-index-end.ensures, before.count, c.args.buffers.now.ok.0) in
+    let since : Option ℕ = unwrap_or (slice_get room.0.nodes c.loop-index.index) None in
+    record {
+      room = (
+        room.0,
+        unwrap_or (slice_get room.0.nodes c.loop-index.index) None,
+        room.1 c.loop-index.index c.index_mut.result.now (unwrap_or (slice_get room.0.nodes c.loop-index.index) None)
+            (sym (before.todo c.loop-index.index (omega arith)) ∙ slice_get_read c.loop-index.buffers.items (length c.loop-index.buffers.items) c.loop-index.index c.index_mut.result.now refl within c.index_mut.ensures.value)
+            (there room.0.nodes c.loop-index.index None (omega (arith, room.2, before.count))),
+        room.3,
+        room.4,
+        room.5,
+      );
+    }
 
 pub loop-index-preserved : goal.loop-index-preserved
 loop-index-preserved c =
@@ -13,19 +33,16 @@ loop-index-preserved c =
     let within : c.loop-index.index < length c.loop-index.buffers.items = omega (arith, c.loop-index-test.true, c.len-index-end.ensures, before.count, c.args.buffers.now.ok.0) in
     record {
       count = length-set _ _ _ ∙ before.count;
-      todo = todo_more c.args.buffers.now.items c.loop-index.buffers.items c.loop-index.index c.add.new.self before.todo;
-      done = λ kept all. one_more (λ buffer. HoldsAll buffer kept) (λ buffer. HoldsAll buffer (with_one c.args.epoch.0 c.args.bucket c.args.change.now kept)) c.args.buffers.now.items c.loop-index.buffers.items c.loop-index.index
-          c.index_mut.result.now c.add.new.self within before.count c.index_mut.ensures.value before.todo
-          (λ holds. holds_one c.index_mut.result.now c.add.new.self c.args.epoch.0 c.args.bucket c.args.change.now kept holds
-          (subst (λ (change : Change). (e b : ℕ) → node.changes_kept c.add.new.self e b ≡ node.with_change c.args.epoch.0 c.args.bucket change (node.changes_kept c.index_mut.result.now) e b) c.in_ok-copy.ensures c.in_ok-place.ensures.kept)
-          c.in_ok-place.ensures.closes c.in_ok-place.ensures.since) all (before.done kept all);
-      buckets = λ b all. buckets_stay (λ buffer. node.IsBucketOf buffer b) c.loop-index.buffers.items c.loop-index.index c.index_mut.result.now c.add.new.self within c.index_mut.ensures.value
-          (c.in_ok-place.ensures.buckets b) (before.buckets b all);
-      place = λ kept all _. c.in_ok-place.ensures.place
-          ∙ ap length ((subst (λ (buffer : BucketBuffer). HoldsAll buffer kept) (sym (c.index_mut.ensures.value ∙ before.todo c.loop-index.index c.index_mut.result.now (omega arith)))
-          (all c.loop-index.index c.index_mut.result.now (omega (arith, before.count)))).0 c.args.epoch.0 c.args.bucket);
+      todo = todo_next c.args.buffers.now.items c.loop-index.buffers.items c.loop-index.index c.add_to_one.new.buffer within before.todo;
+      done = λ kept hold is_open order. done_next (λ (k : ℕ) (buffer : Option BucketBuffer). (since : Option ℕ) → slice_get kept.nodes k ≡ Some since → HoldsNode buffer since (with_part c.args.bucket c.args.change.now kept))
+          c.loop-index.buffers.items c.loop-index.index c.add_to_one.new.buffer within
+          (λ since is.
+          let old_holds : HoldsNode c.index_mut.result.now since kept = hold c.loop-index.index c.index_mut.result.now since
+          (sym (before.todo c.loop-index.index (omega arith)) ∙ slice_get_read c.loop-index.buffers.items (length c.loop-index.buffers.items) c.loop-index.index c.index_mut.result.now refl within c.index_mut.ensures.value) is in
+          c.in_ok-add_to_one.ensures kept since old_holds is_open order)
+          (before.done kept hold is_open order);
     }
 
 pub returns-clause-kept : goal.returns-clause-kept
-returns-clause-kept c = λ kept all k d below.
-    c.loop-index.invariant.done kept all k d (omega (arith, c.loop-index-test.false, c.len-index-end.ensures, c.loop-index.invariant.count, c.args.buffers.now.ok.0))
+returns-clause-kept c = λ kept hold is_open order k buffer since at_buffer at_since.
+    c.loop-index.invariant.done kept hold is_open order k buffer (let inside = slice_get_within c.loop-index.buffers.items k buffer at_buffer in omega (arith, c.loop-index-test.false, c.len-index-end.ensures, c.loop-index.invariant.count, c.args.buffers.now.ok.0)) at_buffer since at_since

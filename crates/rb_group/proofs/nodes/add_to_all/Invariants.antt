@@ -1,16 +1,16 @@
-use Rattle.std.proofs.Common.{◌≡◌, ◌<◌, ◌≤◌, ℕ, length, get_or}
-use Rattle.std.specs.List.{All}
-use Rattle.rb_bucket.specs.Bucket as node
+use Rattle.std.proofs.Common.{◌≡◌, ◌<◌, ◌≤◌, ℕ, length}
+use Rattle.std.specs.Prelude.{Option, Some}
+use Rattle.std.specs.List.{slice_get}
 use Rattle.rb_bucket.specs.declared.bucket.BucketBuffer.{BucketBuffer}
-use Rattle.rb_group.specs.Kept.{Kept, HoldsAll, with_one}
+use Rattle.rb_group.specs.Kept.{Kept, HoldsNode, with_part}
+use Rattle.rb_group.specs.Group.{IsOrdered}
+use Rattle.rb_group.specs.Nodes.{AllHold}
 use Rattle.rb_group.proofs.nodes.add_to_all.Given as goal
 
--- the buffers below the index have the change, and the others are as they were
+-- the buffers below the index are as they are to be, and the others as they were
 abbrev pub invariant-loop-index : goal.invariant-loop-index
 invariant-loop-index l = record {
   count : length l.buffers.items ≡ length l.initial.buffers.items;
-  todo : (k : ℕ) (d : BucketBuffer) → l.index ≤ k → get_or l.buffers.items k d ≡ get_or l.initial.buffers.items k d;
-  done : (kept : Kept) → All (λ buffer. HoldsAll buffer kept) l.initial.buffers.items → (k : ℕ) (d : BucketBuffer) → k < l.index → HoldsAll (get_or l.buffers.items k d) (with_one l.epoch.0 l.bucket l.change kept);
-  buckets : (b : ℕ) → All (λ buffer. node.IsBucketOf buffer b) l.initial.buffers.items → All (λ buffer. node.IsBucketOf buffer b) l.buffers.items;
-  place : (kept : Kept) → All (λ buffer. HoldsAll buffer kept) l.initial.buffers.items → 1 ≤ l.index → l.place ≡ length (kept.changes l.epoch.0 l.bucket);
+  todo : (k : ℕ) → l.index ≤ k → slice_get l.buffers.items k ≡ slice_get l.initial.buffers.items k;
+  done : (kept : Kept) → AllHold l.initial.buffers.items kept → kept.opened ≡ l.epoch.0 → IsOrdered kept → (k : ℕ) (buffer : Option BucketBuffer) → k < l.index → slice_get l.buffers.items k ≡ Some buffer → (since : Option ℕ) → slice_get kept.nodes k ≡ Some since → HoldsNode buffer since (with_part l.bucket l.change kept);
 }

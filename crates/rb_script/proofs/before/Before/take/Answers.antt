@@ -1,9 +1,10 @@
-use Rattle.std.proofs.Common.{◌∷◌, [], ◌++◌, ◌+◌, map, sym, subst, refl}
+use Rattle.std.proofs.Common.{◌∷◌, [], ◌++◌, ◌+◌, ◌≤◌, map, sym, subst, refl}
 use Rattle.rb_text_defs.specs.Form.{SiteLine, TableLine, TxLine, EventLine, Says}
-use Rattle.rb_text_defs.specs.Script.{closes_in_form}
+use Rattle.rb_text_defs.specs.Script.{closes_in_form, restarts_in_form}
 use Rattle.rb_text_defs.proofs.Lines.{not_misplaced}
 use Rattle.rb_script.specs.Seen.{operation_seen}
 use Rattle.rb_script.specs.Tells.{Tells, forms_of}
+use Rattle.rb_script.specs.declared.before.Before.{Before}
 use Rattle.rb_script.proofs.TellsLaws.{told_site, told_table, told_tx, told_event}
 use Rattle.rb_script.proofs.before.Before.take.Goals as goal
 
@@ -34,6 +35,8 @@ returns-in_ok-take_tx-in-Tx-clause-told c =
 pub returns-in_ok-take_event-in-Event-clause-told : goal.returns-in_ok-take_event-in-Event-clause-told
 returns-in_ok-take_event-in-Event-clause-told c =
     let room = rw c.in-Event.is at c.requires.room in
+    let taken = c.in_ok-take_event-in-Event.ensures.taken in
+    let few = subst (λ (after : Before). (after.closes ≤ after.lines) × (after.restarts ≤ after.lines)) taken c.in_ok-take_event-in-Event.ensures.few in
     rw c.in-Event.is (λ readings told fine.
-    subst (λ after. Tells (readings ++ Says (EventLine c.in-Event.event) ∷ []) after) (sym c.in_ok-take_event-in-Event.ensures)
-    (told_event readings c.args.self.now c.in-Event.event (closes_in_form (EventLine c.in-Event.event)) told room refl))
+    subst (λ after. Tells (readings ++ Says (EventLine c.in-Event.event) ∷ []) after) (sym taken)
+    (told_event readings c.args.self.now c.in-Event.event (closes_in_form (EventLine c.in-Event.event)) (restarts_in_form (EventLine c.in-Event.event)) told room refl refl few.0 few.1))

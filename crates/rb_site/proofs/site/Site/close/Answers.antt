@@ -1,12 +1,21 @@
 use Rattle.std.proofs.Common.{refl, ap, ◌∙◌}
 use Rattle.rb_commit.specs.Hand.{Hand}
-use Rattle.rb_site.proofs.CloseLaws.{can_close, site_closed, close_is}
+use Rattle.rb_site.proofs.CloseLaws.{can_close, closing_from, site_closed, close_is}
 use Rattle.rb_site.proofs.site.Site.close.Goals as goal
 
 pub close-requires-2 : goal.close-requires-2
 close-requires-2 c =
-    let (file, shape, run, held, room) = c.requires.fits in
-    record { room = can_close shape c.args.self file run held }
+    let (file, shape, run, held, none, room) = c.requires.fits in
+    record { room = can_close shape c.args.gci c.args.self file run _ held none (c.open.ensures ∙ ap (λ (h : Hand). h.opened) c.in-Some.ensures.closed) }
+
+pub send_all-requires : goal.send_all-requires
+send_all-requires c =
+    let (file, shape, run, held, none, room) = c.requires.fits in record {
+      senders = closing_from shape c.args.gci c.args.self file run c.prev-prev.result c.open.result c.in_ok-nodes.messages.items held
+          c.prev-prev.ensures
+          (c.open.ensures ∙ ap (λ (h : Hand). h.opened) c.in-Some.ensures.closed)
+          (λ b s holds. c.in_ok-nodes.ensures.sent b s holds);
+    }
 
 pub returns-clause-closed : goal.returns-clause-closed
 returns-clause-closed c = λ shape file run held.
@@ -16,6 +25,7 @@ returns-clause-closed c = λ shape file run held.
     refl refl c.in-Some.ensures.closed refl
     (λ b s holds. c.in_ok-nodes.ensures.holds b s holds)
     (λ b s holds. c.in_ok-nodes.ensures.sent b s holds)
-    (λ ss ds box. c.in_ok-send_all.ensures ss ds box)
-    refl refl refl in
+    (λ ss ds fa box. c.in_ok-send_all.ensures.sent ss ds fa box)
+    c.in_ok-send_all.ensures.nodes
+    refl refl refl refl in
     close_is shape c.args.gci _ file run c.in-Some.epoch c.len-sent.result after (c.in-Some.ensures.some ∙ ap (λ (h : Hand). h.opened) held.clock) c.len-sent.ensures

@@ -2,21 +2,25 @@ use Rattle.std.proofs.Common.{refl, sym, ap, ◌∙◌, subst, List, map, length
 use Rattle.rb_base.specs.declared.change.Change.{Change}
 use Rattle.rb_commit.specs.Hand.{Hand}
 use Rattle.rb_journal_defs.specs.Journal.{of_key, row_left}
-use Rattle.rb_message_defs.specs.Message.{home_node, parts_sent, sent_by}
+use Rattle.rb_message_defs.specs.Message.{parts_sent, sent_by}
+use Rattle.rb_message_defs.specs.Nodes.{owner_in}
 use Rattle.rb_store.specs.Tables.{rows_in}
 use Rattle.rb_site.specs.Nodes.{with_changes, HoldsNodes}
 use Rattle.rb_site.specs.Outbox.{HoldsSent}
+use Rattle.rb_site.proofs.PointLaws.{owners_in}
 use Rattle.rb_site.proofs.TxLaws.{can_send, can_store, site_committed, outcome_is}
 use Rattle.rb_site.proofs.site.Site.commit.Goals as goal
 
 pub send_parts-requires : goal.send_parts-requires
 send_parts-requires c =
-    let (file, shape, run, operations, held, fits, free, is) = c.requires.accepted in
-    record { room = can_send shape c.args.self file run operations c.as_slice-2.result.now held fits (c.as_slice-2.ensures ∙ is) }
+    let (file, shape, run, operations, held, none, fits, free, is) = c.requires.accepted in record {
+      room = can_send shape c.args.self file run operations c.as_slice-2.result.now held none fits (c.as_slice-2.ensures ∙ is);
+      owners = owners_in shape c.args.self file run held;
+    }
 
 pub store-requires : goal.store-requires
 store-requires c =
-    let (file, shape, run, operations, held, fits, free, is) = c.requires.accepted in
+    let (file, shape, run, operations, held, none, fits, free, is) = c.requires.accepted in
     record { storable = can_store shape c.args.self file run operations c.as_slice-3.result.now held fits free (c.as_slice-3.ensures ∙ is) }
 
 pub returns-clause-committed : goal.returns-clause-committed
@@ -25,6 +29,7 @@ returns-clause-committed c = λ shape file run operations held fits free is.
     (λ t k. c.in_ok-store.ensures.rows t k ∙ ap (λ (cs : List Change). row_left (of_key t k cs) (rows_in c.args.self.tables t k)) c.as_slice-3.ensures)
     c.store.ensures.count
     (λ b s holds. subst (λ (cs : List Change). HoldsNodes c.in_ok-nodes.nodes b (with_changes cs s)) c.as_slice-2.ensures (c.in_ok-nodes.ensures.holds b s holds))
-    (λ b s ss ds holds box. subst (λ (cs : List Change). HoldsSent c.send_parts.new.outbox (ss ++ map (sent_by home_node) (parts_sent b s.opened (s.changes s.opened) cs)) ds) c.as_slice-2.ensures (c.in_ok-nodes.ensures.sent b s ss ds holds box))
-    refl refl (ap (λ (cs : List Change). c.args.self.made + length cs) c.as_slice.ensures) in
+    (λ b s ss ds fa holds box. subst (λ (cs : List Change). HoldsSent c.send_parts.new.outbox (ss ++ map (sent_by (owner_in s.members)) (parts_sent b s.opened (s.changes s.opened) cs)) ds fa) c.as_slice-2.ensures (c.in_ok-nodes.ensures.sent b s ss ds fa holds box))
+    c.in_ok-nodes.ensures.senders
+    refl refl refl (ap (λ (cs : List Change). c.args.self.made + length cs) c.as_slice.ensures) in
     (after, outcome_is shape _ file run operations c.in-Some.transid c.len-sent.result c.open-epoch.result after (c.in-Some.ensures.some ∙ sym (ap (λ (h : Hand). h.drawn) c.in-Some.ensures.drawn)) c.open-epoch.ensures c.len-sent.ensures)

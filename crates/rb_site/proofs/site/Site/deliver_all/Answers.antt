@@ -1,5 +1,5 @@
 use Rattle.std.proofs.Common.{refl, sym, subst, ◌∙◌, arith}
-use Rattle.rb_site.proofs.DeliverAllLaws.{IsOnTheWay, way_begins, place_within, sum_below, way_more, way_smaller, way_ends}
+use Rattle.rb_site.proofs.DeliverAllLaws.{IsOnTheWay, way_begins, way_looked, first_waits, place_within, sum_below, way_more, way_smaller, waits_same, way_ends}
 use Rattle.rb_site.proofs.site.Site.deliver_all.Goals as goal
 
 pub loop-place-init : goal.loop-place-init
@@ -11,18 +11,22 @@ loop-place-init c = record {
 pub receive-requires-clause-fits : goal.receive-requires-clause-fits
 receive-requires-clause-fits c =
     let (file, shape, run, held) = c.requires.fits in
-    let way = c.loop-place.invariant.way shape file run held in
+    let way = way_looked shape file run c.loop-place.site (record c.loop-place.site { outbox = c.first_waiting.new.self }) c.loop-place.tally (c.loop-place.invariant.way shape file run held) (λ ss ds fa box. c.in-Some.ensures.holds ss ds fa box) c.in-Some.ensures.failed refl in
     (file, shape, way.now, way.held)
 
 pub receive-requires-clause-place : goal.receive-requires-clause-place
 receive-requires-clause-place c =
     let (file, shape, run, held) = c.requires.fits in
-    place_within shape file run c.loop-place.site c.loop-place.tally c.in-Some.place (c.loop-place.invariant.way shape file run held) (λ ss ds box. c.in-Some.ensures ss ds box)
+    let way = c.loop-place.invariant.way shape file run held in
+    let within = place_within shape file run c.loop-place.site c.loop-place.tally c.in-Some.place way (first_waits shape file run c.loop-place.site c.loop-place.tally _ way (λ ss ds fa box. c.in-Some.ensures.first ss ds fa box)) in
+    let same = c.in-Some.ensures.sent in
+    rw same within
 
 pub add-requires : goal.add-requires
 add-requires c =
     let (file, shape, run, held) = c.requires.fits in
-    let below = sum_below shape file run c.loop-place.site c.loop-place.tally c.in-Some.place (c.loop-place.invariant.way shape file run held) (λ ss ds box. c.in-Some.ensures ss ds box) in
+    let way = c.loop-place.invariant.way shape file run held in
+    let below = sum_below shape file run c.loop-place.site c.loop-place.tally c.in-Some.place way (first_waits shape file run c.loop-place.site c.loop-place.tally _ way (λ ss ds fa box. c.in-Some.ensures.first ss ds fa box)) in
     let ok = c.loop-place.site.outbox.sent.ok in
     let small = c.loop-place.site.outbox.sent.small in
     record { room = omega arith }
@@ -30,17 +34,26 @@ add-requires c =
 pub loop-place-smaller : goal.loop-place-smaller
 loop-place-smaller c =
     let (file, shape, run, held) = c.requires.fits in
-    way_smaller shape file run c.loop-place.site c.receive.new.self c.loop-place.tally c.in-Some.place c.in_ok-answer.answer (c.loop-place.invariant.way shape file run held) (λ ss ds box. c.in-Some.ensures ss ds box) (λ s f r site. c.in_ok-answer.ensures.received s f r site)
+    let way = c.loop-place.invariant.way shape file run held in
+    let looked = way_looked shape file run c.loop-place.site (record c.loop-place.site { outbox = c.first_waiting.new.self }) c.loop-place.tally way (λ ss ds fa box. c.in-Some.ensures.holds ss ds fa box) c.in-Some.ensures.failed refl in
+    let first = first_waits shape file run c.loop-place.site c.loop-place.tally _ way (λ ss ds fa box. c.in-Some.ensures.first ss ds fa box) in
+    let one = way_smaller shape file run (record c.loop-place.site { outbox = c.first_waiting.new.self }) c.receive.new.self c.loop-place.tally c.in-Some.place c.in_ok-answer.answer looked first (λ s f r site. c.in_ok-answer.ensures.received s f r site) in
+    let same = waits_same shape file run c.loop-place.site (record c.loop-place.site { outbox = c.first_waiting.new.self }) c.loop-place.tally way looked refl in
+    omega arith
 
 pub loop-place-preserved : goal.loop-place-preserved
 loop-place-preserved c = record {
   way = λ shape file run held.
+      let way = c.loop-place.invariant.way shape file run held in
+      let looked = way_looked shape file run c.loop-place.site (record c.loop-place.site { outbox = c.first_waiting.new.self }) c.loop-place.tally way (λ ss ds fa box. c.in-Some.ensures.holds ss ds fa box) c.in-Some.ensures.failed refl in
       subst (IsOnTheWay shape file run c.receive.new.self) (sym c.add.ensures)
-      (way_more shape file run c.loop-place.site c.receive.new.self c.loop-place.tally c.in-Some.place c.in_ok-answer.answer (c.loop-place.invariant.way shape file run held) (λ ss ds box. c.in-Some.ensures ss ds box) (λ s f r site. c.in_ok-answer.ensures.received s f r site));
+      (way_more shape file run (record c.loop-place.site { outbox = c.first_waiting.new.self }) c.receive.new.self c.loop-place.tally c.in-Some.place c.in_ok-answer.answer looked (first_waits shape file run c.loop-place.site c.loop-place.tally _ way (λ ss ds fa box. c.in-Some.ensures.first ss ds fa box)) (λ s f r site. c.in_ok-answer.ensures.received s f r site));
   nodes = (c.receive.ensures.nodes.0 ∙ c.loop-place.invariant.nodes.0, c.receive.ensures.nodes.1 ∙ c.loop-place.invariant.nodes.1);
 }
 
 pub returns-clause-delivered : goal.returns-clause-delivered
 returns-clause-delivered c = λ shape file run held.
-    let (after, answer) = way_ends shape file run c.loop-place.site c.loop-place.tally (c.loop-place.invariant.way shape file run held) (λ ss ds box. c.in_default.ensures ss ds box) in
+    let way = c.loop-place.invariant.way shape file run held in
+    let looked = way_looked shape file run c.loop-place.site (record c.loop-place.site { outbox = c.first_waiting.new.self }) c.loop-place.tally way (λ ss ds fa box. c.in_default.ensures.holds ss ds fa box) c.in_default.ensures.failed refl in
+    let (after, answer) = way_ends shape file run (record c.loop-place.site { outbox = c.first_waiting.new.self }) c.loop-place.tally looked (first_waits shape file run c.loop-place.site c.loop-place.tally _ way (λ ss ds fa box. c.in_default.ensures.first ss ds fa box)) in
     (after, c.outcome.ensures ∙ answer)

@@ -1,7 +1,8 @@
-use Rattle.std.proofs.Common.{ℕ, List, length}
+use Rattle.std.proofs.Common.{ℕ, List}
 use Rattle.rb_journal_defs.specs.Body.{Shape}
 use Rattle.rb_play_defs.specs.Step.{Progress}
 use Rattle.rb_site.specs.Site.{IsSite, SameNodes}
+use Rattle.rb_site.proofs.OutboxLaws.{still_waiting}
 use Rattle.rb_site.proofs.DeliverAllLaws.{IsOnTheWay}
 use Rattle.rb_site.proofs.site.Site.deliver_all.Given as goal
 
@@ -13,4 +14,4 @@ invariant-loop-place l = record {
 
 -- fewer and fewer messages wait
 abbrev pub decreases-loop-place : goal.decreases-loop-place
-decreases-loop-place l = length l.site.outbox.waiting.keys
+decreases-loop-place l = still_waiting l.site.outbox

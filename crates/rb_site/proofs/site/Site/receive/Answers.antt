@@ -9,4 +9,4 @@ receive-requires c =
 
 pub returns-clause-received : goal.returns-clause-received
 returns-clause-received c = if_ok_both c.receive.result _ _ _ c.receive.ensures.answer c.receive.ensures.kept (λ answer answers kept shape file run held.
-    site_delivered shape c.args.self.now _ file run c.args.place c.in_ok-message.message answer held c.in_ok-message.ensures.message (λ ss ds box. c.in_ok-message.ensures.delivered ss ds box) answers kept refl)
+    site_delivered shape c.args.self.now _ file run c.args.place c.in_ok-message.message answer held c.in_ok-message.ensures.message (λ ss ds fa box. c.in_ok-message.ensures.delivered ss ds fa box) c.in_ok-message.ensures.nodes answers kept refl)

@@ -14,17 +14,17 @@ use Rattle.rb_site.proofs.TakeLaws.{site_same, site_passed, site_logged, leaves_
 use Rattle.rb_site.proofs.site.Site.take_next.Goals as goal
 
 pub returns-in_default-clause-taken : goal.returns-in_default-clause-taken
-returns-in_default-clause-taken g c = λ shape run held.
+returns-in_default-clause-taken g c = λ acknowledged shape run held.
     let file = g.D.LogDisk.seen c.args.disk.now 1 in (
       none_taken (journal_assembly shape run.last run.journal) (takeable shape run) (next_is shape c.args.self.now file run None held (λ fed stands chained. c.in_default.ensures.answer fed stands chained)),
       site_same shape c.args.self.now c.take_epoch.new.self file run held (buffer_stays shape c.args.self.now file run c.take_epoch.new.self held (λ fed stands chained. c.in_default.ensures.answer fed stands chained) (λ fed stands chained. c.in_default.ensures.taken fed stands chained)),
     )
 
 pub returns-in_err-body-clause-stopped : goal.returns-in_err-body-clause-stopped
-returns-in_err-body-clause-stopped g c = err_anyway c.from_residual.result _ (λ fault shape run held. leaves_same shape c.args.self.now (g.D.LogDisk.seen c.args.disk.now 1) run fault held)
+returns-in_err-body-clause-stopped g c = err_anyway c.from_residual.result _ (λ fault acknowledged shape run held. leaves_same shape c.args.self.now (g.D.LogDisk.seen c.args.disk.now 1) run fault held)
 
 pub returns-then-not-has_something-clause-taken : goal.returns-then-not-has_something-clause-taken
-returns-then-not-has_something-clause-taken g c = λ shape run held.
+returns-then-not-has_something-clause-taken g c = λ acknowledged shape run held.
     let file = g.D.LogDisk.seen c.args.disk.now 1 in
     let next = next_there shape c.args.self.now file run c.in-Some.assembled c.in_ok-body.body c.as_slice.result.now held (λ fed stands chained. c.in-Some.ensures.answer fed stands chained) c.as_slice.ensures c.in_ok-body.ensures in
     let none : has_something_to_log (body_of shape next.epoch run.journal) ≡ false = sym (ap has_something_to_log next.body_is) ∙ sym c.has_something.ensures ∙ c.if-not-has_something.true in
@@ -33,14 +33,14 @@ returns-then-not-has_something-clause-taken g c = λ shape run held.
 
 pub write_body-requires-clause-writable : goal.write_body-requires-clause-writable
 write_body-requires-clause-writable g c =
-    let (shape, run, held) = c.requires.fits in
+    let (acknowledged, shape, run, held) = c.requires.fits in
     let file = g.D.LogDisk.seen c.args.disk.now 1 in
     let next = next_there shape c.args.self.now file run c.in-Some.assembled c.in_ok-body.body c.as_slice.result.now held (λ fed stands chained. c.in-Some.ensures.answer fed stands chained) c.as_slice.ensures c.in_ok-body.ensures in
     subst CanBeWritten (sym next.body_is) (can_be_written shape next.epoch run.journal held.declared held.fits)
 
 pub write_body-requires-clause-fits : goal.write_body-requires-clause-fits
 write_body-requires-clause-fits g c =
-    let (shape, run, held) = c.requires.fits in
+    let (acknowledged, shape, run, held) = c.requires.fits in
     let file = g.D.LogDisk.seen c.args.disk.now 1 in
     let next = next_there shape c.args.self.now file run c.in-Some.assembled c.in_ok-body.body c.as_slice.result.now held (λ fed stands chained. c.in-Some.ensures.answer fed stands chained) c.as_slice.ensures c.in_ok-body.ensures in
     let some : has_something_to_log (body_of shape next.epoch run.journal) ≡ true = sym (ap has_something_to_log next.body_is) ∙ sym c.has_something.ensures ∙ c.if-not-has_something.false in
@@ -53,7 +53,7 @@ write_body-requires-clause-fits g c =
 pub returns-in_err-length-clause-stopped : goal.returns-in_err-length-clause-stopped
 returns-in_err-length-clause-stopped g c =
     let p = err_from_is_err_and c.from_residual-in_err-length.result c.from_residual-in_err-length.ensures.1 in
-    rw (p.1, p.2) (λ shape run held.
+    rw (p.1, p.2) (λ acknowledged shape run held.
     let file = g.D.LogDisk.seen c.args.disk.now 1 in
     let next = next_there shape c.args.self.now file run c.in-Some.assembled c.in_ok-body.body c.as_slice.result.now held (λ fed stands chained. c.in-Some.ensures.answer fed stands chained) c.as_slice.ensures c.in_ok-body.ensures in
     let some : has_something_to_log (body_of shape next.epoch run.journal) ≡ true = sym (ap has_something_to_log next.body_is) ∙ sym c.has_something.ensures ∙ c.if-not-has_something.false in
@@ -64,12 +64,12 @@ returns-in_err-length-clause-stopped g c =
 
 pub overflow_add-self : goal.overflow_add-self
 overflow_add-self g c =
-    let (shape, run, held) = c.requires.fits in
+    let (acknowledged, shape, run, held) = c.requires.fits in
     let small = written_small shape c.args.self.now (g.D.LogDisk.seen c.args.disk.now 1) run held in
     omega arith
 
 pub returns-clause-taken : goal.returns-clause-taken
-returns-clause-taken g c = λ shape run held.
+returns-clause-taken g c = λ acknowledged shape run held.
     let file = g.D.LogDisk.seen c.args.disk.now 1 in
     let next = next_there shape c.args.self.now file run c.in-Some.assembled c.in_ok-body.body c.as_slice.result.now held (λ fed stands chained. c.in-Some.ensures.answer fed stands chained) c.as_slice.ensures c.in_ok-body.ensures in
     let some : has_something_to_log (body_of shape next.epoch run.journal) ≡ true = sym (ap has_something_to_log next.body_is) ∙ sym c.has_something.ensures ∙ c.if-not-has_something.false in

@@ -1,0 +1,159 @@
+-- What is sent, read off the buffers of nodes that cover.
+use Rattle.std.proofs.Common.{◌≡◌, ◌⊎◌, inl, inr, ℕ, ◌+◌, ◌<◌, ◌≤◌, zero, suc, Bool, true, false, cond, List, [], ◌∷◌, ◌++◌, length, map, refl, subst, sym, ap, ◌∙◌, arith, add-one}
+use Rattle.std.specs.Prelude.{◌&&◌, if◌then◌else◌, nat_le, nat_lt, Option, Some, None, filter, unwrap_or}
+use Rattle.std.specs.List.{find, flat_map, AllByRecursion, enumerate_from}
+use Rattle.std.specs.Option.{option_map, option_map_or}
+use Rattle.std.proofs.lemmas.Bool.{cases_lt, le-leb, lt-ltb, le-ltb, leb-true}
+use Rattle.rb_base.specs.declared.change.Change.{Change}
+use Rattle.rb_base.specs.declared.message.Message.{Message}
+use Rattle.rb_base.specs.declared.message.Message.TheVariants.{Part, Done}
+use Rattle.rb_message_defs.specs.Nodes.{sent_from}
+use Rattle.rb_bucket.specs.Bucket as node
+use Rattle.rb_bucket.specs.Bucket.{Rising}
+use Rattle.rb_bucket.specs.declared.bucket.BucketBuffer.{BucketBuffer}
+use Rattle.rb_group.specs.declared.group.Group.{Group}
+use Rattle.rb_group.specs.Kept.{Kept, HoldsFrom, HoldsNode, numbers_of, since_in, needed_in, covers_in, parts_in, done_in, unacknowledged_in, again_in}
+use Rattle.rb_group.specs.Group.{IsOrdered, Keeps, IsNumberOf}
+use Rattle.rb_group.specs.Nodes.{numbers_from, numbers_in, buffer_of, count_of, again_of}
+use Rattle.rb_group.proofs.Lists.{map_more, flat_more, flat_filter_more, filter_more}
+use Rattle.rb_group.proofs.Holding.{held_here}
+use Rattle.rb_group.proofs.Standing.{held_node}
+
+-- what is told of closed epochs that are all late enough
+all_late : {X : Type 0} (since a n : ℕ) (f g : ℕ × ℕ → List X) (cs : List (ℕ × ℕ)) → since ≤ n → a < n → AllByRecursion (λ y. n < y) (map (λ close. close.0) cs) →
+    ((close : ℕ × ℕ) → since ≤ close.0 → a < close.0 → f close ≡ g close) →
+    flat_map f (filter (λ (close : ℕ × ℕ). nat_le since close.0 && nat_lt a close.0) cs) ≡ flat_map g (filter (λ (close : ℕ × ℕ). nat_lt a close.0) cs)
+all_late since a n f g [] from above all same = refl
+all_late {X} since a n f g (c ∷ cs) from above all same =
+    rw (le-leb since c.0 (omega (arith, all.0)), lt-ltb a c.0 (omega (arith, all.0)), same c (omega (arith, all.0)) (omega (arith, all.0)), all_late since a n f g cs from above all.1 same) refl
+
+-- what is told of the closed epochs of a node that covers
+late_enough : {X : Type 0} (since a top : ℕ) (f g : ℕ × ℕ → List X) (cs : List (ℕ × ℕ)) → Rising top (map (λ close. close.0) cs) → since ≤ unwrap_or (find (nat_lt a) (map (λ close. close.0) cs)) top →
+    ((close : ℕ × ℕ) → since ≤ close.0 → a < close.0 → f close ≡ g close) →
+    flat_map f (filter (λ (close : ℕ × ℕ). nat_le since close.0 && nat_lt a close.0) cs) ≡ flat_map g (filter (λ (close : ℕ × ℕ). nat_lt a close.0) cs)
+late_enough since a top f g [] rising covers same = refl
+late_enough since a top f g (c ∷ cs) rising covers same = go (cases_lt a c.0) (λ rest. late_enough since a top f g cs rising.2 rest same)
+  where
+    go : (a < c.0) ⊎ (c.0 ≤ a) → (since ≤ unwrap_or (find (nat_lt a) (map (λ close. close.0) cs)) top →
+        flat_map f (filter (λ (close : ℕ × ℕ). nat_le since close.0 && nat_lt a close.0) cs) ≡ flat_map g (filter (λ (close : ℕ × ℕ). nat_lt a close.0) cs)) →
+        flat_map f (filter (λ (close : ℕ × ℕ). nat_le since close.0 && nat_lt a close.0) (c ∷ cs)) ≡ flat_map g (filter (λ (close : ℕ × ℕ). nat_lt a close.0) (c ∷ cs))
+    go (inl above) rest =
+        let from : since ≤ c.0 = subst (λ (t : Bool). since ≤ unwrap_or (cond t (Some c.0) (find (nat_lt a) (map (λ close. close.0) cs))) top) (lt-ltb a c.0 above) covers in
+        rw (le-leb since c.0 from, lt-ltb a c.0 above, same c from above, all_late since a c.0 f g cs from above rising.1 same) refl
+    go (inr under) rest =
+        let tail : since ≤ unwrap_or (find (nat_lt a) (map (λ close. close.0) cs)) top = subst (λ (t : Bool). since ≤ unwrap_or (cond t (Some c.0) (find (nat_lt a) (map (λ close. close.0) cs))) top) (le-ltb a c.0 under) covers in
+        rw (le-ltb a c.0 under, and_false (nat_le since c.0)) (rest tail)
+      where
+        and_false : (t : Bool) → (t && false) ≡ false
+        and_false true = refl
+        and_false false = refl
+
+-- the needed epoch is not above the open one
+needed_low : (a top : ℕ) (xs : List ℕ) → Rising top xs → unwrap_or (find (nat_lt a) xs) top ≤ top
+needed_low a top [] rising = omega arith
+needed_low a top (x ∷ xs) rising = go (nat_lt a x) (needed_low a top xs rising.2)
+  where
+    go : (t : Bool) → unwrap_or (find (nat_lt a) xs) top ≤ top → unwrap_or (cond t (Some x) (find (nat_lt a) xs)) top ≤ top
+    go true rest = omega (arith, rising.0)
+    go false rest = rest
+
+-- a node that covers has all that is not acknowledged
+pub covering_messages : (since : ℕ) (buffer : BucketBuffer) (kept : Kept) (bucket : ℕ) → HoldsFrom since buffer kept → IsOrdered kept → since ≤ needed_in kept →
+    node.messages_kept buffer bucket kept.opened ≡ unacknowledged_in kept bucket
+unfolding node.messages_kept
+covering_messages since buffer kept bucket holds order covers =
+    ap (λ (closes : List (ℕ × ℕ)). flat_map (λ (close : ℕ × ℕ). node.parts_kept buffer bucket close.0 ++ node.done_kept buffer bucket close ∷ []) closes ++ node.parts_kept buffer bucket kept.opened) holds.closes
+    ∙ ap (λ (ms : List Message). ms ++ node.parts_kept buffer bucket kept.opened)
+    (late_enough since kept.acknowledged kept.opened (λ (close : ℕ × ℕ). node.parts_kept buffer bucket close.0 ++ node.done_kept buffer bucket close ∷ []) (λ (close : ℕ × ℕ). parts_in kept bucket close.0 ++ done_in kept bucket close ∷ [])
+    kept.closes order.closes covers same)
+    ∙ ap (λ (cs : List Change). flat_map (λ (close : ℕ × ℕ). parts_in kept bucket close.0 ++ done_in kept bucket close ∷ []) (filter (λ (close : ℕ × ℕ). nat_lt kept.acknowledged close.0) kept.closes)
+    ++ map (λ numbered. Part bucket (record { 0 = kept.opened }) numbered.0 numbered.1) (enumerate_from 0 cs))
+    (held_here since buffer kept kept.opened bucket holds (let low = needed_low kept.acknowledged kept.opened (map (λ close. close.0) kept.closes) order.closes in omega arith) order.acknowledged)
+  where
+    same : (close : ℕ × ℕ) → since ≤ close.0 → kept.acknowledged < close.0 →
+        ◌≡◌ {A = List Message} (node.parts_kept buffer bucket close.0 ++ node.done_kept buffer bucket close ∷ []) (parts_in kept bucket close.0 ++ done_in kept bucket close ∷ [])
+    same close from above = ap (λ (cs : List Change). map (λ numbered. Part bucket (record { 0 = close.0 }) numbered.0 numbered.1) (enumerate_from 0 cs) ++ Done bucket (record { 0 = close.0 }) (record { 0 = close.1 }) (length cs) ∷ [])
+        (held_here since buffer kept close.0 bucket holds from above)
+
+-- what a node that covers sends again
+pub again_same : (group : Group) (kept : Kept) (sender bucket : ℕ) → Keeps group kept → IsNumberOf kept sender → covers_in kept sender ≡ true → again_in kept sender bucket ≡ again_of group sender bucket
+again_same group kept sender bucket keeps is covers = go (buffer_of group sender) (since_in kept sender) (held_node group kept sender keeps is) covers
+  where
+    go : (b : Option BucketBuffer) (s : Option ℕ) → HoldsNode b s kept → option_map_or (λ since. nat_le since (needed_in kept)) s false ≡ true →
+        again_in kept sender bucket ≡ option_map_or (λ buffer. sent_from sender (node.messages_kept buffer bucket group.opened.0)) b []
+    go None None holds up = absurd (let f : false ≡ true = up in cc)
+    go (Some b) (Some s) holds up = ap (sent_from sender) (sym (covering_messages s b kept bucket holds keeps.order (leb-true s (needed_in kept) up))
+        ∙ ap (node.messages_kept b bucket) (sym keeps.opened))
+    go None (Some s) holds up = absurd holds
+    go (Some b) None holds up = absurd holds
+
+-- how many changes a node that covers holds of a bucket in the open epoch
+pub count_same : (group : Group) (kept : Kept) (sender bucket : ℕ) → Keeps group kept → IsNumberOf kept sender → covers_in kept sender ≡ true → length (kept.changes kept.opened bucket) ≡ count_of group sender bucket
+count_same group kept sender bucket keeps is covers = go (buffer_of group sender) (since_in kept sender) (held_node group kept sender keeps is) covers
+  where
+    go : (b : Option BucketBuffer) (s : Option ℕ) → HoldsNode b s kept → option_map_or (λ since. nat_le since (needed_in kept)) s false ≡ true →
+        length (kept.changes kept.opened bucket) ≡ option_map_or (λ buffer. length (node.changes_kept buffer group.opened.0 bucket)) b 0
+    go None None holds up = absurd (let f : false ≡ true = up in cc)
+    go (Some b) (Some s) holds up = ap length (sym (held_here s b kept kept.opened bucket holds
+        (let low = needed_low kept.acknowledged kept.opened (map (λ close. close.0) kept.closes) keeps.order.closes in let l = leb-true s (needed_in kept) up in omega arith) keeps.order.acknowledged))
+        ∙ ap (λ (e : ℕ). length (node.changes_kept b e bucket)) (sym keeps.opened)
+    go None (Some s) holds up = absurd holds
+    go (Some b) None holds up = absurd holds
+
+-- a buffer holds no more than was done
+pub within : (buffer : BucketBuffer) (since : Option ℕ) (kept : Kept) (e bucket : ℕ) → HoldsNode (Some buffer) since kept → length (node.changes_kept buffer e bucket) ≤ length (kept.changes e bucket)
+within buffer None kept e bucket holds = absurd holds
+within buffer (Some since) kept e bucket holds = subst (λ (cs : List Change). length cs ≤ length (kept.changes e bucket)) (sym (holds.changes e bucket)) (go (nat_le since e && nat_lt kept.acknowledged e))
+  where
+    go : (t : Bool) → length (if t then kept.changes e bucket else []) ≤ length (kept.changes e bucket)
+    go true = omega arith
+    go false = omega arith
+
+-- a buffer is of the group's buckets
+pub of_bucket : (buffer : BucketBuffer) (since : Option ℕ) (kept : Kept) (bucket : ℕ) → HoldsNode (Some buffer) since kept → IsNumberOf kept bucket → node.IsBucketOf buffer bucket
+of_bucket buffer None kept bucket holds is = absurd holds
+of_bucket buffer (Some since) kept bucket holds is = holds.buckets bucket is.0 is.1
+
+-- the same numbers
+pub numbers_same : (group : Group) (kept : Kept) → Keeps group kept → numbers_of kept ≡ numbers_in group
+numbers_same group kept keeps = ap (λ (f : ℕ). numbers_from f (length kept.nodes)) (sym keeps.first) ∙ ap (λ (n : ℕ). numbers_from group.first n) (sym (ap length keeps.owners ∙ keeps.owner_count))
+
+-- what is told of each number
+pub map_same : {X : Type 0} (f g : ℕ → X) (first n : ℕ) → ((k : ℕ) → k < n → f (first + k) ≡ g (first + k)) → map f (numbers_from first n) ≡ map g (numbers_from first n)
+map_same f g first zero same = refl
+map_same {X} f g first (suc n) same = let e = add-one n in
+    subst (λ (m : ℕ). map f (numbers_from first m) ≡ map g (numbers_from first m)) (add-one n)
+    (map_more f first n ∙ ap (λ (ys : List X). ys ++ f (first + n) ∷ []) (map_same f g first n (λ k below. same k (omega arith))) ∙ ap (λ (y : X). map g (numbers_from first n) ++ y ∷ []) (same n (omega arith)) ∙ sym (map_more g first n))
+
+pub flat_same : {X : Type 0} (f g : ℕ → List X) (first n : ℕ) → ((k : ℕ) → k < n → f (first + k) ≡ g (first + k)) → flat_map f (numbers_from first n) ≡ flat_map g (numbers_from first n)
+flat_same f g first zero same = refl
+flat_same {X} f g first (suc n) same =
+    subst (λ (m : ℕ). flat_map f (numbers_from first m) ≡ flat_map g (numbers_from first m)) (add-one n)
+    (flat_more f first n ∙ ap (λ (ys : List X). ys ++ f (first + n)) (flat_same f g first n (λ k below. same k (omega arith))) ∙ ap (λ (y : List X). flat_map g (numbers_from first n) ++ y) (same n (omega arith)) ∙ sym (flat_more g first n))
+
+pub flat_filter_same : {X : Type 0} (f g : ℕ → List X) (p q : ℕ → Bool) (first n : ℕ) →
+    ((k : ℕ) → k < n → (if p (first + k) then f (first + k) else []) ≡ (if q (first + k) then g (first + k) else [])) → flat_map f (filter p (numbers_from first n)) ≡ flat_map g (filter q (numbers_from first n))
+flat_filter_same f g p q first zero same = refl
+flat_filter_same {X} f g p q first (suc n) same =
+    subst (λ (m : ℕ). flat_map f (filter p (numbers_from first m)) ≡ flat_map g (filter q (numbers_from first m))) (add-one n)
+    (flat_filter_more f p first n ∙ ap (λ (ys : List X). ys ++ (if p (first + n) then f (first + n) else [])) (flat_filter_same f g p q first n (λ k below. same k (omega arith)))
+    ∙ ap (λ (y : List X). flat_map g (filter q (numbers_from first n)) ++ y) (same n (omega arith)) ∙ sym (flat_filter_more g q first n))
+
+pub filter_same : (p q : ℕ → Bool) (first n : ℕ) → ((k : ℕ) → k < n → p (first + k) ≡ q (first + k)) → filter p (numbers_from first n) ≡ filter q (numbers_from first n)
+filter_same p q first zero same = refl
+filter_same p q first (suc n) same =
+    subst (λ (m : ℕ). filter p (numbers_from first m) ≡ filter q (numbers_from first m)) (add-one n)
+    (filter_more p first n ∙ ap (λ (ys : List ℕ). ys ++ (if p (first + n) then (first + n) ∷ [] else [])) (filter_same p q first n (λ k below. same k (omega arith)))
+    ∙ ap (λ (t : Bool). filter q (numbers_from first n) ++ (if t then (first + n) ∷ [] else [])) (same n (omega arith)) ∙ sym (filter_more q first n))
+
+-- a node that covers is up, and its buffer has all that is not acknowledged of a bucket
+pub covering_holds : (group : Group) (kept : Kept) (number bucket : ℕ) → Keeps group kept → IsNumberOf kept number → covers_in kept number ≡ true →
+    option_map (λ buffer. node.messages_kept buffer bucket kept.opened) (buffer_of group number) ≡ Some (unacknowledged_in kept bucket)
+covering_holds group kept number bucket keeps is covers = go (buffer_of group number) (since_in kept number) (held_node group kept number keeps is) covers
+  where
+    go : (b : Option BucketBuffer) (s : Option ℕ) → HoldsNode b s kept → option_map_or (λ since. nat_le since (needed_in kept)) s false ≡ true →
+        option_map (λ buffer. node.messages_kept buffer bucket kept.opened) b ≡ Some (unacknowledged_in kept bucket)
+    go None None holds up = absurd (let f : false ≡ true = up in cc)
+    go (Some b) (Some s) holds up = ap (λ (ms : List Message). Some ms) (covering_messages s b kept bucket holds keeps.order (leb-true s (needed_in kept) up))
+    go None (Some s) holds up = absurd holds
+    go (Some b) None holds up = absurd holds

@@ -1,0 +1,218 @@
+-- What the groups of a site send at a close, at a takeover and at a resend is what the run sends.
+use Rattle.std.proofs.Common.{◌≡◌, ℕ, zero, suc, ◌+◌, ◌*◌, ◌/◌, ◌<◌, Bool, true, false, cond, List, [], ◌∷◌, ◌++◌, length, map, filter, refl, sym, ap, ◌∙◌, arith}
+use Rattle.std.specs.Prelude.{◌==◌, ◌&&◌, not, if◌then◌else◌}
+use Rattle.std.specs.List.{AllByRecursion, flat_map, list_any}
+use Rattle.std.proofs.Math.Nat.{suc-mul}
+use Rattle.std.proofs.lemmas.Bool.{eqb-true}
+use Rattle.std.proofs.lemmas.List.{append-nil}
+use Rattle.std.proofs.lemmas.Grind.{flat_map-append}
+use Rattle.rb_base.specs.declared.message.Message.{Message}
+use Rattle.rb_base.specs.declared.message.Message.TheVariants.{Done}
+use Rattle.rb_base.specs.declared.message.Sent.{Sent}
+use Rattle.rb_journal_defs.specs.Journal.{previous_closed}
+use Rattle.rb_journal_defs.specs.Body.{Shape, in_bucket, changes_in, numbers_below}
+use Rattle.rb_message_defs.specs.Message.{home_node, done_message, sent_by}
+use Rattle.rb_message_defs.specs.Nodes.{node_at, owner_in, covers, numbers_in, group_of, owned_by, returns, sent_from, unacknowledged}
+use Rattle.rb_message_defs.proofs.Messages.{all_below, all_joined, all_mapped, all_more}
+use Rattle.rb_message_defs.proofs.Again.{all_flat}
+use Rattle.rb_group.specs.Kept as group
+use Rattle.rb_group.specs.Kept.{Kept, numbers_of, done_in, again_in, returns_in, covers_in}
+use Rattle.rb_play_defs.specs.Step.{Progress, acknowledged_epoch, needed_of, sent_again, only_closed, sent_at_close}
+use Rattle.rb_play_defs.proofs.Fits.{all_filtered}
+use Rattle.rb_site.specs.Nodes as site
+use Rattle.rb_site.specs.Nodes.{Buffered, share_of, HoldsNodes}
+use Rattle.rb_site.specs.Site.{buffered_by}
+use Rattle.rb_site.specs.declared.nodes.Nodes.{Nodes}
+use Rattle.rb_site.proofs.NodeLaws.{of_its_group, share_count}
+use Rattle.rb_site.proofs.ShareLaws.{needed_share, unacknowledged_share, owner_share, covers_share}
+use Rattle.rb_site.proofs.MemberLaws.{numbers_split}
+use Rattle.rb_site.proofs.PointLaws.{IsOf, numbers_are, numbers_below_all, groups_are, owner_below, owned_is_of}
+
+-- what is told alike of each item
+map_alike : {X Y : Type 0} → (f g : X → Y) (xs : List X) → AllByRecursion (λ x. f x ≡ g x) xs → map f xs ≡ map g xs
+map_alike f g [] alike = refl
+map_alike {X} {Y} f g (x ∷ xs) alike = ap (λ (y : Y). y ∷ map f xs) alike.0 ∙ ap (λ (ys : List Y). g x ∷ ys) (map_alike f g xs alike.1)
+
+flat_alike : {X Y : Type 0} → (f g : X → List Y) (xs : List X) → AllByRecursion (λ x. f x ≡ g x) xs → flat_map f xs ≡ flat_map g xs
+flat_alike f g [] alike = refl
+flat_alike {X} {Y} f g (x ∷ xs) alike = ap (λ (ys : List Y). ys ++ flat_map f xs) alike.0 ∙ ap (λ (ys : List Y). g x ++ ys) (flat_alike f g xs alike.1)
+
+filter_alike : {X : Type 0} → (p q : X → Bool) (xs : List X) → AllByRecursion (λ x. p x ≡ q x) xs → filter p xs ≡ filter q xs
+filter_alike p q [] alike = refl
+filter_alike {X} p q (x ∷ xs) alike = ap (λ (b : Bool). cond b (x ∷ filter p xs) (filter p xs)) alike.0 ∙ ap (λ (ys : List X). cond (q x) (x ∷ ys) ys) (filter_alike p q xs alike.1)
+
+-- what holds of all items that pass
+all_passing : (P Q : ℕ → Type 0) (test : ℕ → Bool) (xs : List ℕ) → ((x : ℕ) → P x → test x ≡ true → Q x) → AllByRecursion P xs → AllByRecursion Q (filter test xs)
+all_passing P Q test [] f all = tt
+all_passing P Q test (x ∷ xs) f all = go (test x) refl (all_passing P Q test xs f all.1)
+  where
+    go : (b : Bool) → test x ≡ b → AllByRecursion Q (filter test xs) → AllByRecursion Q (cond b (x ∷ filter test xs) (filter test xs))
+    go true passes rest = (f x all.0 passes, rest)
+    go false passes rest = rest
+
+-- the numbers of a share are those of its group
+numbers_share : (buckets : ℕ) (now : Buffered) (number : ℕ) → numbers_of (share_of buckets now number) ≡ numbers_in now.members number
+numbers_share buckets now number = ap (λ (n : ℕ). map (λ step. number * now.members.replicas + step) (numbers_below n)) (share_count buckets now number)
+
+among_own : (now : Buffered) (number bucket : ℕ) → IsOf now.members.replicas number bucket → list_any (λ other. other == bucket) (numbers_in now.members number) ≡ true
+among_own now number bucket is = of_its_group now bucket number (number + 1) (record { within = omega arith; from = is.0; below = is.1 })
+
+-- what a node sends again of a bucket of its group
+again_share : (shape : Shape) (run : Progress) (number sender bucket : ℕ) → IsOf run.nodes.replicas number bucket →
+    again_in (share_of shape.buckets (buffered_by shape run) number) sender bucket ≡ sent_again shape run sender bucket
+again_share shape run number sender bucket is = ap (sent_from sender) (unacknowledged_share shape run number bucket (among_own (buffered_by shape run) number bucket is))
+
+-- the end of a bucket, as its owner sends it
+done_share : (shape : Shape) (run : Progress) (number bucket prev : ℕ) → IsOf run.nodes.replicas number bucket → prev ≡ previous_closed run.opened run.journal →
+    record { sender = group.owner_in (share_of shape.buckets (buffered_by shape run) number) bucket; message = done_in (share_of shape.buckets (buffered_by shape run) number) bucket (run.opened, prev) }
+    ≡ sent_by (owner_in run.nodes) (done_message shape run.opened bucket run.journal)
+done_share shape run number bucket prev is before =
+    ap (λ (o : ℕ). record { sender = o; message = done_in (share_of shape.buckets (buffered_by shape run) number) bucket (run.opened, prev) }) (owner_share shape.buckets (buffered_by shape run) number bucket is.0 is.1)
+    ∙ ap (λ (here : Bool). record {
+      sender = owner_in run.nodes bucket;
+      message = Done bucket (record { 0 = run.opened }) (record { 0 = prev }) (length (if here then in_bucket shape.buckets bucket (changes_in shape.site run.opened run.journal) else []));
+    }) (among_own (buffered_by shape run) number bucket is)
+    ∙ ap (λ (p : ℕ). record {
+      sender = owner_in run.nodes bucket;
+      message = Done bucket (record { 0 = run.opened }) (record { 0 = p }) (length (in_bucket shape.buckets bucket (changes_in shape.site run.opened run.journal)));
+    }) before
+
+-- the buckets that return at a close
+returns_share : (shape : Shape) (run : Progress) (number bucket : ℕ) → IsOf run.nodes.replicas number bucket →
+    returns_in (share_of shape.buckets (buffered_by shape run) number) bucket ≡ returns run.nodes (needed_of shape run) bucket
+returns_share shape run number bucket is =
+    ap (λ (o : ℕ). not (o == home_node bucket) && covers_in (share_of shape.buckets (buffered_by shape run) number) (home_node bucket)) (owner_share shape.buckets (buffered_by shape run) number bucket is.0 is.1)
+    ∙ ap (λ (c : Bool). not (owner_in run.nodes bucket == home_node bucket) && c)
+    (covers_share shape.buckets (buffered_by shape run) number (home_node bucket) is.0 is.1 ∙ ap (λ (n : ℕ). covers n (node_at run.nodes (home_node bucket))) (needed_share shape run number))
+
+-- what a group sends at a close
+group_closes : (shape : Shape) (gci : Bool) (run : Progress) (number prev next : ℕ) → prev ≡ previous_closed run.opened run.journal →
+    site.only_closed prev next (buffered_by shape run) ≡ buffered_by shape (only_closed gci run) →
+    group.sent_at_close prev next (share_of shape.buckets (buffered_by shape run) number) ≡ sent_at_close shape run (only_closed gci run) number
+group_closes shape gci run number prev next before behind =
+    ap (λ (later : Kept). map done (numbers_of kept) ++ flat_map (λ bucket. again_in later bucket bucket) (filter (returns_in later) (numbers_of kept))) (ap (λ (all : Buffered). share_of shape.buckets all number) behind)
+    ∙ ap (λ (ns : List ℕ). map done ns ++ flat_map (λ bucket. again_in now bucket bucket) (filter (returns_in now) ns)) (numbers_share shape.buckets (buffered_by shape run) number)
+    ∙ ap (λ (ms : List Sent). ms ++ flat_map (λ bucket. again_in now bucket bucket) (filter (returns_in now) numbers))
+    (map_alike done (λ bucket. sent_by (owner_in run.nodes) (done_message shape run.opened bucket run.journal)) numbers (all_more (IsOf run.nodes.replicas number) (λ bucket. done bucket ≡ sent_by (owner_in run.nodes) (done_message shape run.opened bucket run.journal)) numbers (λ bucket is. done_share shape run number bucket prev is before) own))
+    ∙ ap (λ (ns : List ℕ). map (λ bucket. sent_by (owner_in run.nodes) (done_message shape run.opened bucket run.journal)) numbers ++ flat_map (λ bucket. again_in now bucket bucket) ns)
+    (filter_alike (returns_in now) (returns run.nodes (needed_of shape after)) numbers (all_more (IsOf run.nodes.replicas number) (λ bucket. returns_in now bucket ≡ returns run.nodes (needed_of shape after) bucket) numbers (λ bucket is. returns_share shape after number bucket is) own))
+    ∙ ap (λ (ms : List Sent). map (λ bucket. sent_by (owner_in run.nodes) (done_message shape run.opened bucket run.journal)) numbers ++ ms)
+    (flat_alike (λ bucket. again_in now bucket bucket) (λ bucket. sent_again shape after bucket bucket) (filter (returns run.nodes (needed_of shape after)) numbers)
+    (all_filtered (λ bucket. again_in now bucket bucket ≡ sent_again shape after bucket bucket) (returns run.nodes (needed_of shape after)) numbers (all_more (IsOf run.nodes.replicas number) (λ bucket. again_in now bucket bucket ≡ sent_again shape after bucket bucket) numbers (λ bucket is. again_share shape after number bucket bucket is) own)))
+  where
+    after : Progress
+    after = only_closed gci run
+
+    kept : Kept
+    kept = share_of shape.buckets (buffered_by shape run) number
+
+    now : Kept
+    now = share_of shape.buckets (buffered_by shape after) number
+
+    numbers : List ℕ
+    numbers = numbers_in run.nodes number
+
+    own : AllByRecursion (IsOf run.nodes.replicas number) numbers
+    own = numbers_are run.nodes number
+
+    done : ℕ → Sent
+    done bucket = record { sender = group.owner_in kept bucket; message = done_in kept bucket (run.opened, prev) }
+
+-- and what all of them send
+pub sent_closing : (shape : Shape) (gci : Bool) (run : Progress) (nodes : Nodes) (prev next : ℕ) → HoldsNodes nodes shape.buckets (buffered_by shape run) → prev ≡ previous_closed run.opened run.journal →
+    site.only_closed prev next (buffered_by shape run) ≡ buffered_by shape (only_closed gci run) →
+    site.sent_at_close shape.buckets (buffered_by shape run) prev next (length nodes.groups.items) ≡ flat_map (sent_at_close shape run (only_closed gci run)) (numbers_below (shape.buckets / run.nodes.replicas))
+sent_closing shape gci run nodes prev next held before behind =
+    flat_alike (λ number. group.sent_at_close prev next (share_of shape.buckets (buffered_by shape run) number)) (sent_at_close shape run (only_closed gci run)) (numbers_below (length nodes.groups.items))
+    (all_below (length nodes.groups.items) (λ number within. group_closes shape gci run number prev next before behind))
+    ∙ ap (λ (groups : ℕ). flat_map (sent_at_close shape run (only_closed gci run)) (numbers_below groups)) (groups_are nodes shape.buckets (buffered_by shape run) held)
+
+-- messages of one sender
+from_sender : (most sender : ℕ) (messages : List Message) → sender < most → AllByRecursion (λ m. m.sender < most) (sent_from sender messages)
+from_sender most sender [] below = tt
+from_sender most sender (message ∷ messages) below = (below, from_sender most sender messages below)
+
+-- what is sent again by senders below a number
+again_senders : (shape : Shape) (run : Progress) (most : ℕ) (sender : ℕ → ℕ) (buckets : List ℕ) → AllByRecursion (λ bucket. sender bucket < most) buckets →
+    AllByRecursion (λ m. m.sender < most) (flat_map (λ bucket. sent_again shape run (sender bucket) bucket) buckets)
+again_senders shape run most sender [] below = tt
+again_senders shape run most sender (bucket ∷ buckets) below =
+    all_joined (λ (m : Sent). m.sender < most) (sent_again shape run (sender bucket) bucket) (flat_map (λ b. sent_again shape run (sender b) b) buckets)
+    (from_sender most (sender bucket) (unacknowledged shape (acknowledged_epoch shape run) run.opened run.journal bucket) below.0)
+    (again_senders shape run most sender buckets below.1)
+
+-- who sends at a close is one of the nodes
+pub closing_senders : (shape : Shape) (gci : Bool) (run : Progress) (nodes : Nodes) → HoldsNodes nodes shape.buckets (buffered_by shape run) →
+    AllByRecursion (λ m. m.sender < shape.buckets) (flat_map (sent_at_close shape run (only_closed gci run)) (numbers_below (shape.buckets / run.nodes.replicas)))
+closing_senders shape gci run nodes held =
+    all_flat (λ (m : Sent). m.sender < shape.buckets) (sent_at_close shape run (only_closed gci run)) (numbers_below (shape.buckets / run.nodes.replicas))
+    (all_below (shape.buckets / run.nodes.replicas) (λ number within. one number (numbers_below_all nodes shape.buckets (buffered_by shape run) number held (let n = groups_are nodes shape.buckets (buffered_by shape run) held in omega arith))))
+  where
+    after : Progress
+    after = only_closed gci run
+
+    one : (number : ℕ) → AllByRecursion (λ bucket. bucket < shape.buckets) (numbers_in run.nodes number) → AllByRecursion (λ (m : Sent). m.sender < shape.buckets) (sent_at_close shape run after number)
+    one number below =
+        all_joined (λ (m : Sent). m.sender < shape.buckets) (map (λ bucket. sent_by (owner_in run.nodes) (done_message shape run.opened bucket run.journal)) (numbers_in run.nodes number))
+        (flat_map (λ bucket. sent_again shape after bucket bucket) (filter (returns run.nodes (needed_of shape after)) (numbers_in run.nodes number)))
+        (all_mapped (λ (m : Sent). m.sender < shape.buckets) (λ bucket. sent_by (owner_in run.nodes) (done_message shape run.opened bucket run.journal)) (numbers_in run.nodes number)
+        (all_more (λ bucket. bucket < shape.buckets) (λ bucket. owner_in run.nodes bucket < shape.buckets) (numbers_in run.nodes number) (λ bucket l. owner_below nodes shape.buckets (buffered_by shape run) bucket held l) below))
+        (again_senders shape after shape.buckets (λ bucket. bucket) (filter (returns run.nodes (needed_of shape after)) (numbers_in run.nodes number)) (all_filtered (λ bucket. bucket < shape.buckets) (returns run.nodes (needed_of shape after)) (numbers_in run.nodes number) below))
+
+-- what a successor sends
+pub sent_taking_over : (shape : Shape) (run : Progress) (nodes : Nodes) (node successor : ℕ) → HoldsNodes nodes shape.buckets (buffered_by shape run) →
+    flat_map (again_in (share_of shape.buckets (buffered_by shape run) (group_of run.nodes node)) successor) (owned_by run.nodes node) ≡ flat_map (sent_again shape run successor) (owned_by run.nodes node)
+sent_taking_over shape run nodes node successor held =
+    flat_alike (again_in (share_of shape.buckets (buffered_by shape run) (group_of run.nodes node)) successor) (sent_again shape run successor) (owned_by run.nodes node)
+    (all_passing (λ bucket. bucket < length run.nodes.owners) (λ bucket. again_in (share_of shape.buckets (buffered_by shape run) (group_of run.nodes node)) successor bucket ≡ sent_again shape run successor bucket)
+    (λ bucket. owner_in run.nodes bucket == node) (numbers_below (length run.nodes.owners))
+    (λ bucket below owns. again_share shape run (group_of run.nodes node) successor bucket
+    (owned_is_of nodes shape.buckets (buffered_by shape run) bucket node held (let count = held.owners in omega arith) (eqb-true (owner_in run.nodes bucket) node owns)))
+    (all_below (length run.nodes.owners) (λ k below. below)))
+
+pub takeover_senders : (shape : Shape) (run : Progress) (node successor : ℕ) → successor < shape.buckets → AllByRecursion (λ m. m.sender < shape.buckets) (flat_map (sent_again shape run successor) (owned_by run.nodes node))
+takeover_senders shape run node successor below = again_senders shape run shape.buckets (λ bucket. successor) (owned_by run.nodes node) (each (owned_by run.nodes node))
+  where
+    each : (buckets : List ℕ) → AllByRecursion (λ (bucket : ℕ). successor < shape.buckets) buckets
+    each [] = tt
+    each (bucket ∷ buckets) = (below, each buckets)
+
+-- group by group, or bucket by bucket
+by_groups : (f : ℕ → List Sent) (replicas groups : ℕ) → flat_map (λ number. flat_map f (map (λ step. number * replicas + step) (numbers_below replicas))) (numbers_below groups) ≡ flat_map f (numbers_below (groups * replicas))
+by_groups f replicas zero = ap (λ (n : ℕ). flat_map f (numbers_below n)) (let same : zero ≡ zero * replicas = grind arith in same)
+by_groups f replicas (suc groups) =
+    flat_map-append of_group (numbers_below groups) (groups ∷ [])
+    ∙ ap (λ (ms : List Sent). ms ++ (of_group groups ++ [])) (by_groups f replicas groups)
+    ∙ ap (λ (ms : List Sent). flat_map f (numbers_below (groups * replicas)) ++ ms) (append-nil (of_group groups))
+    ∙ sym (flat_map-append f (numbers_below (groups * replicas)) (map (λ step. groups * replicas + step) (numbers_below replicas)))
+    ∙ ap (flat_map f) (sym (numbers_split (groups * replicas) replicas))
+    ∙ ap (λ (n : ℕ). flat_map f (numbers_below n)) (sym (suc-mul groups replicas))
+  where
+    of_group : ℕ → List Sent
+    of_group number = flat_map f (map (λ step. number * replicas + step) (numbers_below replicas))
+
+-- what a group sends again
+group_resends : (shape : Shape) (run : Progress) (number : ℕ) →
+    group.sent_at_resend (share_of shape.buckets (buffered_by shape run) number) ≡ flat_map (λ bucket. sent_again shape run (owner_in run.nodes bucket) bucket) (numbers_in run.nodes number)
+group_resends shape run number =
+    let kept = share_of shape.buckets (buffered_by shape run) number in
+    ap (flat_map (λ bucket. again_in kept (group.owner_in kept bucket) bucket)) (numbers_share shape.buckets (buffered_by shape run) number)
+    ∙ flat_alike (λ bucket. again_in kept (group.owner_in kept bucket) bucket) (λ bucket. sent_again shape run (owner_in run.nodes bucket) bucket) (numbers_in run.nodes number)
+    (all_more (IsOf run.nodes.replicas number) (λ bucket. again_in kept (group.owner_in kept bucket) bucket ≡ sent_again shape run (owner_in run.nodes bucket) bucket) (numbers_in run.nodes number)
+    (λ bucket is. again_share shape run number (group.owner_in kept bucket) bucket is ∙ ap (λ (o : ℕ). sent_again shape run o bucket) (owner_share shape.buckets (buffered_by shape run) number bucket is.0 is.1))
+    (numbers_are run.nodes number))
+
+-- and what all of them do
+pub sent_resending : (shape : Shape) (run : Progress) (nodes : Nodes) → HoldsNodes nodes shape.buckets (buffered_by shape run) →
+    site.sent_at_resend shape.buckets (buffered_by shape run) (length nodes.groups.items) ≡ flat_map (λ bucket. sent_again shape run (owner_in run.nodes bucket) bucket) (numbers_below shape.buckets)
+sent_resending shape run nodes held =
+    let again : ℕ → List Sent = λ bucket. sent_again shape run (owner_in run.nodes bucket) bucket in
+    flat_alike (λ number. group.sent_at_resend (share_of shape.buckets (buffered_by shape run) number)) (λ number. flat_map again (numbers_in run.nodes number)) (numbers_below (length nodes.groups.items))
+    (all_below (length nodes.groups.items) (λ number within. group_resends shape run number))
+    ∙ by_groups again run.nodes.replicas (length nodes.groups.items)
+    ∙ ap (λ (n : ℕ). flat_map again (numbers_below n)) (ap (λ (replicas : ℕ). length nodes.groups.items * replicas) (sym held.replicas) ∙ held.count)
+
+pub resend_senders : (shape : Shape) (run : Progress) (nodes : Nodes) → HoldsNodes nodes shape.buckets (buffered_by shape run) →
+    AllByRecursion (λ m. m.sender < shape.buckets) (flat_map (λ bucket. sent_again shape run (owner_in run.nodes bucket) bucket) (numbers_below shape.buckets))
+resend_senders shape run nodes held =
+    again_senders shape run shape.buckets (owner_in run.nodes) (numbers_below shape.buckets) (all_below shape.buckets (λ bucket below. owner_below nodes shape.buckets (buffered_by shape run) bucket held below))

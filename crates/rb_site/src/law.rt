@@ -1,0 +1,12 @@
+ghost use Rattle.std.specs.Prelude.{◌≡◌, ◌<◌, ℕ, List, None};
+ghost use Rattle.rb_journal_defs.specs.Body.{Shape};
+ghost use Rattle.rb_play_defs.specs.Step.{Progress};
+ghost use Rattle.rb_site.specs.Site.{IsSite, OwnerHolds};
+ghost use Rattle.rb_site.specs.declared.site.Site.{Site};
+
+/// At each point of a run without a loss, of each site that stands for it, as those that `create` and `step` answer do: the node
+/// that owns a bucket is up, and its buffer has every message of the bucket that is not acknowledged: of each closed epoch above
+/// the acknowledged one the changes and the end, and of the open epoch the changes. So it can send each of them again.
+pub fn owners_hold_what_is_not_acknowledged()
+    ensures { (shape : Shape) (site : Site) (file : List ℕ) (run : Progress) → IsSite shape site file run → run.lost ≡ None → (bucket : ℕ) → bucket < shape.buckets → OwnerHolds shape site run bucket }
+{}
