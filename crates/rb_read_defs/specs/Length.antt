@@ -1,0 +1,20 @@
+-- Length-encoded numbers, as the MySQL protocol writes them, in the shortest form or a longer one.
+use Rattle.std.specs.Prelude.{ℕ, ◌+◌, ◌==◌, ◌||◌, nat_lt, nat_le, if◌then◌else◌, List, length, drop, slice_get, Option, Some, None}
+use Rattle.byteorder.specs.Endian.{little_number}
+use Rattle.rb_base.specs.declared.faults.LengthRead.{LengthRead}
+use Rattle.rb_base.specs.declared.faults.LengthRead.TheVariants.{Number, Short, Wrong}
+
+-- how many bytes of the number follow its first byte, where that is `fc`, `fd` or `fe`
+abbrev pub width_behind : (first : ℕ) → ℕ
+width_behind first = if first == 252 then 2 else (if first == 253 then 3 else 8)
+
+-- the number that stands at a place, and the place behind it, in the shortest form or a longer one: `fb` and `ff` begin no number
+unfoldable pub length_read : List ℕ → (at : ℕ) → LengthRead
+length_read bytes at = by_first (slice_get bytes at)
+  where
+    by_first : Option ℕ → LengthRead
+    by_first None = Short
+    by_first (Some first) =
+        if (first == 251) || (first == 255) then Wrong
+        else (if nat_lt first 251 then Number first (at + 1)
+        else (if nat_le (at + 1 + width_behind first) (length bytes) then Number (little_number (width_behind first) (drop (at + 1) bytes)) (at + 1 + width_behind first) else Short))
