@@ -73,7 +73,7 @@ told_rows body = record { server = body.server; epoch = body.epoch } ∷ reflect
 
 -- an epoch that is read back as it was written: its numbers have room; server 1 reflects none; the tables are those named by the
 -- changes, in the order of their ids, of which none is 0, the apply-status table's; each change fits its table; and no event is longer
--- than a header can say
+-- than a reader accepts
 pub record IsReadable (body : EpochBody) : Type 0 where
   pub server : body.server < 2 ^ 32
   pub epoch : body.epoch.0 < 2 ^ 64

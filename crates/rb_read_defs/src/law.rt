@@ -51,16 +51,16 @@ pub fn rows_are_read_back()
         statuses status_table (status_payload body) 0 ≡ Read (told_rows body) (length (status_payload body)) }
 {}
 
-/// An epoch that was written, wherever it starts but at position 4, and behind whatever events that are at no
-/// rotation and in no epoch, is read back: as the one step that is this epoch and its end, with what stands behind it read as if it
-/// stood alone. The worked example's epoch is one that can be read back.
+/// An epoch that is readable is read back as it was written, at each position but 4 from which it ends below 2^32, behind whatever
+/// events that are at no rotation and in no epoch: as the one step that is this epoch and its end, with what stands behind it read
+/// as if it stood alone. The worked example's epoch is one that can be read back.
 pub fn an_epoch_is_read_back()
     ensures back { (body : EpochBody) (start : ℕ) (earlier : List Known) → IsReadable body → start ≢ 4 → is_open earlier ≡ false → is_rotated earlier ≡ false → start + length (epoch_bytes body start) < 2 ^ 32 → IsReadBack body start earlier }
     ensures worked { IsReadable first_path }
 {}
 
-/// From one position on, no epoch's bytes begin with those of another: an epoch that begins with the bytes of another one is that
-/// one, and ends where it ends.
+/// From one position on, no readable epoch's bytes begin with those of another: an epoch that begins with the bytes of another one is
+/// that one, and ends where it ends.
 pub fn an_epoch_begins_no_other()
     ensures { (one other : EpochBody) (start : ℕ) (more : List ℕ) → IsReadable one → IsReadable other → start ≢ 4 → start + length (epoch_bytes other start) < 2 ^ 32 →
         epoch_bytes other start ≡ epoch_bytes one start ++ more → (other ≡ one) × (more ≡ []) }

@@ -1,6 +1,6 @@
 //! The binary log as it is read: which bytes are events, what each of them says, and the steps that a whole log gives.
 //!
-//! Definitions in `specs/`, and laws of them in `proofs/`. A reader accepts all that is written and wider forms too;
+//! Definitions in `specs/`, and laws of them in `proofs/`. A reader accepts all that the program writes, and wider forms too;
 //! what it accepts is said field by field, in the order of the bytes. The types are those that readers answer.
 #![tactic(auto)]
 

@@ -91,7 +91,7 @@ pub fn events_out_of_place()
     ensures query_first { (seen_of 4 begin).fault ≡ Some (4, fields.Order) }
 {}
 
-/// A payload that ends within a field, or goes on behind the last one, makes the event's size wrong.
+/// A payload that ends within a field, or an XID that goes on behind its number, makes the event's size wrong.
 pub fn wrong_sizes()
     ensures long { (seen_of 0 (up_to 429 (unplaced 16 (zeros 9)))).fault ≡ Some (429, fields.EventSize) }
     ensures short { (seen_of 0 (up_to 429 (unplaced 16 (zeros 7)))).fault ≡ Some (429, fields.EventSize) }
@@ -114,7 +114,8 @@ pub fn rows_of_other_servers()
     ensures two { fault_behind 315 (other_status ++ other_status) ≡ Some (376, fields.Status) }
 {}
 
-/// What the header alone decides: where an event of its type may stand, and how long it may be.
+/// What the header alone decides: where an event of its type may stand, and how long it may be; and how few lengths of post-headers
+/// a format description may have.
 pub fn judged_by_the_header()
     ensures skipped_at_first { (seen_of 4 unplaced_event).fault ≡ Some (4, fields.Order) }
     ensures end_outside { fault_behind 456 (unplaced 16 (zeros 8)) ≡ Some (456, fields.Order) }
