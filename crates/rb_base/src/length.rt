@@ -1,6 +1,7 @@
-ghost use Rattle.std.specs.Prelude.{◌≡◌, ◌++◌, OnOk, OnErr};
-ghost use Rattle.rb_base.specs.Length.{length_bytes};
+ghost use Rattle.std.specs.Prelude.{◌≡◌, ◌≤◌, ◌++◌, length, OnOk, OnErr};
+ghost use Rattle.rb_base.specs.Length.{length_bytes, length_read, width_behind};
 
+use crate::faults::LengthRead;
 use crate::memory::NoMemory;
 use byteorder::{ByteOrder, LittleEndian};
 use std::alloc::Global;
@@ -28,4 +29,43 @@ pub fn write_length(_alloc: Global, out: &mut Vec<u8>, number: u64) -> Result<()
         out.extend_from_slice(&bytes)?;
     }
     Ok(())
+}
+
+/// Reads the number that starts at `at` in the length-encoded form of the MySQL protocol, the shortest form or a
+/// longer one. It answers the number and the place behind it; `Short` where its first byte or one that follows is
+/// not there; and `Wrong` where the first byte is `fb` or `ff`, which begin no number.
+#[tactic(auto, unfolding(crate::specs::Length::length_read))]
+pub fn read_length(bytes: &[u8], at: usize) -> LengthRead
+    requires { at ≤ length bytes.now }
+    ensures { result ≡ length_read bytes.now at }
+{
+    let Some(&first) = bytes.get(at) else {
+        return LengthRead::Short;
+    };
+    if first == 251 || first == 255 {
+        return LengthRead::Wrong;
+    }
+    if first < 251 {
+        return LengthRead::Number(first as u64, at + 1);
+    }
+    let width = width_behind(first);
+    let start = at + 1;
+    if bytes.len() - start < width {
+        return LengthRead::Short;
+    }
+    LengthRead::Number(
+        LittleEndian::read_uint(&bytes[start..], width),
+        start + width,
+    )
+}
+
+/// How many bytes of the number follow its first byte, where that is `fc`, `fd` or `fe`.
+fn width_behind(first: u8) -> usize
+    ensures { result ≡ width_behind first }
+{
+    match first {
+        252 => 2,
+        253 => 3,
+        _ => 8,
+    }
 }

@@ -26,7 +26,7 @@ pub use bucket::bucket_of;
 pub use change::{Cause, Change, Changes, ExceptionRow, ExceptionRows, Kind};
 pub use epoch::Epoch;
 pub use faults::{CodecFault, Failed, Field, LengthRead, OutFault};
-pub use length::write_length;
+pub use length::{read_length, write_length};
 pub use list::{Bytes, Items, Names, Numbers};
 pub use memory::NoMemory;
 pub use message::{Message, Messages, Sent, SentList};

@@ -57,6 +57,32 @@ fn lengths(rt: HostRuntime) -> Result<(), Fail> {
     Ok(())
 }
 
+// The four forms, a small number in the longest, and what is no number.
+#[test]
+fn lengths_read(rt: HostRuntime) {
+    assert_eq!(rt; read_length(&[7, 250], 1), LengthRead::Number(250, 2));
+    assert_eq!(rt;
+        read_length(&[0xfc, 0x2c, 1], 0),
+        LengthRead::Number(300, 3)
+    );
+    assert_eq!(rt;
+        read_length(&[0xfd, 0, 0, 1], 0),
+        LengthRead::Number(65536, 4)
+    );
+    assert_eq!(rt;
+        read_length(&[0, 0xfe, 0, 0, 0, 1, 0, 0, 0, 0], 1),
+        LengthRead::Number(16777216, 10)
+    );
+    assert_eq!(rt;
+        read_length(&[0xfe, 5, 0, 0, 0, 0, 0, 0, 0], 0),
+        LengthRead::Number(5, 9)
+    );
+    assert_eq!(rt; read_length(&[7], 1), LengthRead::Short);
+    assert_eq!(rt; read_length(&[0xfd, 0, 0], 0), LengthRead::Short);
+    assert_eq!(rt; read_length(&[0xfb, 0, 0], 0), LengthRead::Wrong);
+    assert_eq!(rt; read_length(&[0xff], 0), LengthRead::Wrong);
+}
+
 fn five(rt: &HostRuntime) -> Result<Row, NoMemory> {
     let mut values = Values::new(rt.alloc());
     values.push(Value::Num(5))?;

@@ -2,9 +2,9 @@ ghost use Rattle.std.specs.Prelude.{◌≡◌, ◌++◌, IfOk, IsErrOf, OnOk, On
 ghost use Rattle.std.specs.Io.KnownBytes.{Appends};
 ghost use Rattle.rb_base.specs.Faults.{Rose};
 ghost use Rattle.rb_io.specs.Prefix.{GrowsByPrefix};
-ghost use Rattle.rb_cli.specs.Ending.{exit_number_of, fault_line_of, usage_line, name_of_limit, kind_of, bad_script_line};
+ghost use Rattle.rb_cli.specs.Ending.{exit_number_of, fault_line_of, usage_line, name_of_field, name_of_limit, kind_of, bad_log_line, bad_script_line};
 
-use rb_base::{Bytes, NoMemory, OutFault, SiteId};
+use rb_base::{Bytes, Field, NoMemory, OutFault, SiteId};
 use rb_io::{Sink, write_all};
 use rb_script::{Limit, ScriptKind};
 use rb_top::Status;
@@ -22,11 +22,12 @@ pub fn exit_number(status: Status) -> u8
         Status::WriteFault => 5,
         Status::DiskFault { .. } => 6,
         Status::NoMemory => 7,
+        Status::BadLog { .. } => 9,
     }
 }
 
 /// Writes the line that tells a failure, and nothing at `Done`. At an `Err` a front of it may be written. Only the line
-/// on a bad script takes memory.
+/// on a bad script and that on a bad log take memory.
 pub fn tell<O: Sink>(alloc: Global, out: &mut O, status: Status) -> Result<(), OutFault>
     ensures whole { OnOk result (Appends (O.held out.old) (O.held out.new) (fault_line_of status)) }
     ensures part { OnErr result (GrowsByPrefix (O.held out.old) (O.held out.new) (fault_line_of status)) }
@@ -37,6 +38,10 @@ pub fn tell<O: Sink>(alloc: Global, out: &mut O, status: Status) -> Result<(), O
         Status::Usage => tell_usage(out)?,
         Status::BadScript { line, kind } => {
             let text = bad_script_line(alloc, line, kind)?;
+            write_all(out, text.as_slice())?;
+        }
+        Status::BadLog { position, field } => {
+            let text = bad_log_line(alloc, position, field)?;
             write_all(out, text.as_slice())?;
         }
         Status::ReadFault => write_all(out, b"read fault\n")?,
@@ -74,6 +79,18 @@ fn bad_script_line(alloc: Global, line: u32, kind: ScriptKind) -> Result<Bytes, 
     Ok(Bytes::from_vec(text))
 }
 
+// The line on a log whose event at this position is outside the grammar in this field.
+fn bad_log_line(alloc: Global, position: u64, field: Field) -> Result<Bytes, NoMemory>
+    ensures { IfOk result (λ text. text ≡ bad_log_line position field) }
+{
+    let mut text = Vec::from_slice(alloc, b"bad log: position ")?;
+    text.extend_from_slice(position.to_string(alloc)?.as_bytes())?;
+    text.extend_from_slice(b" field ")?;
+    text.extend_from_slice(field_name(field))?;
+    text.push(b'\n')?;
+    Ok(Bytes::from_vec(text))
+}
+
 // Appends what is wrong with a script.
 fn put_kind(text: &mut Vec<u8>, kind: ScriptKind) -> Result<(), NoMemory>
     ensures { OnOk result (text.new.items ≡ text.old.items ++ kind_of kind) }
@@ -105,5 +122,35 @@ fn limit_name(limit: Limit) -> &'static [u8]
         Limit::TxChanges => b"TxChanges",
         Limit::Changes => b"Changes",
         Limit::Work => b"Work",
+    }
+}
+
+// The name of a field.
+fn field_name(field: Field) -> &'static [u8]
+    ensures { result.now ≡ name_of_field field }
+{
+    match field {
+        Field::Magic => b"Magic",
+        Field::EventType => b"EventType",
+        Field::EventSize => b"EventSize",
+        Field::EndPosition => b"EndPosition",
+        Field::Order => b"Order",
+        Field::Version => b"Version",
+        Field::HeaderLength => b"HeaderLength",
+        Field::PostHeader => b"PostHeader",
+        Field::QueryText => b"QueryText",
+        Field::TableId => b"TableId",
+        Field::Columns => b"Columns",
+        Field::ColumnType => b"ColumnType",
+        Field::Metadata => b"Metadata",
+        Field::Extra => b"Extra",
+        Field::Width => b"Width",
+        Field::Present => b"Present",
+        Field::Null => b"Null",
+        Field::Length => b"Length",
+        Field::Key => b"Key",
+        Field::Status => b"Status",
+        Field::AfterRotate => b"AfterRotate",
+        Field::Limit => b"Limit",
     }
 }

@@ -1,6 +1,6 @@
 use crate::arguments::arguments;
 use crate::ending::{exit_number, tell};
-use rb_base::{Bytes, Numbers, OutFault, SiteId};
+use rb_base::{Bytes, Field, Numbers, OutFault, SiteId};
 use rb_io::{MemorySink, SteadySink};
 use rb_script::{Limit, ScriptKind};
 use rb_top::Status;
@@ -64,7 +64,7 @@ fn arguments_are_words(rt: HostRuntime) -> Result<(), Fail> {
 #[test]
 fn statuses_end_so(rt: HostRuntime) -> Result<(), Fail> {
     let kind = ScriptKind::Syntax;
-    let cases: [(Status, u8, &[u8]); 9] = [
+    let cases: [(Status, u8, &[u8]); 11] = [
         (Status::Done, 0, b""),
         (
             Status::Usage,
@@ -80,6 +80,22 @@ fn statuses_end_so(rt: HostRuntime) -> Result<(), Fail> {
             Status::BadScript { line: 12, kind },
             3,
             b"bad script: line 12 syntax\n",
+        ),
+        (
+            Status::BadLog {
+                position: 315,
+                field: Field::TableId,
+            },
+            9,
+            b"bad log: position 315 field TableId\n",
+        ),
+        (
+            Status::BadLog {
+                position: 1073741824,
+                field: Field::Limit,
+            },
+            9,
+            b"bad log: position 1073741824 field Limit\n",
         ),
         (Status::ReadFault, 4, b"read fault\n"),
         (Status::WriteFault, 5, b"write fault\n"),

@@ -1,8 +1,9 @@
 ghost use Rattle.std.specs.Prelude.{◌≡◌, ◌+◌, ◌^◌, ◌<◌, ◌++◌, length, OnOk, OnErr};
 ghost use Rattle.rb_log_defs.specs.Event.{event_bytes};
 
-use crate::header::{Header, header_array};
+use crate::header::header_array;
 use rb_base::NoMemory;
+use rb_read_defs::Header;
 use std::alloc::Global;
 
 /// Appends an event of the type `kind` that starts at `start`, in bytes from the file's start: its header, with

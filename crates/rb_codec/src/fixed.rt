@@ -2,30 +2,15 @@ ghost use Rattle.std.specs.Prelude.{◌≡◌, ◌+◌, ◌^◌, ◌<◌, ◌++�
 ghost use Rattle.rb_log_defs.specs.Event.{format_event, format_payload, query_event, query_payload, rotate_event, rotate_payload, xid_event, xid_payload};
 
 use crate::event::write_event;
+use crate::event_types::{
+    FORMAT_DESCRIPTION_EVENT, POST_HEADER_LENGTHS, QUERY_EVENT, ROTATE_EVENT, XID_EVENT,
+};
 use byteorder::{ByteOrder, LittleEndian};
 use rb_base::NoMemory;
 use std::alloc::Global;
 
-/// The type code of a QUERY event.
-const QUERY_EVENT: u8 = 2;
-
-/// The type code of a ROTATE event.
-const ROTATE_EVENT: u8 = 4;
-
-/// The type code of a FORMAT_DESCRIPTION event.
-const FORMAT_DESCRIPTION_EVENT: u8 = 15;
-
-/// The type code of an XID event.
-const XID_EVENT: u8 = 16;
-
 /// The server version that each log names, at most 50 bytes.
 const SERVER_VERSION: [u8; 6] = *b"8.0-rb";
-
-/// The length of the fixed part of each event's payload, for the event types from 1 to 35.
-const POST_HEADER_LENGTHS: [u8; 35] = [
-    0, 13, 0, 8, 0, 0, 0, 0, 0, 0, 0, 0, 0, 0, 92, 0, 0, 0, 8, 0, 0, 0, 0, 0, 0, 0, 0, 0, 0, 10,
-    10, 10, 0, 0, 0,
-];
 
 /// Appends the format description event, with which each file of the log begins: 111 bytes, of the server
 /// `server`, starting at `start`. Without memory the output stays as it was.

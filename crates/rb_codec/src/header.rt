@@ -3,21 +3,8 @@ ghost use Rattle.rb_log_defs.specs.Event.{header_bytes};
 
 use byteorder::{ByteOrder, LittleEndian};
 use rb_base::NoMemory;
+use rb_read_defs::Header;
 use std::alloc::Global;
-
-/// The header of an event, which its first 19 bytes hold. The timestamp is not among the fields: it is always 0.
-#[derive(Clone, Copy, Debug, PartialEq, Eq)]
-pub struct Header {
-    /// The event's type code.
-    pub kind: u8,
-    /// The server id of the site that wrote the event.
-    pub server: u32,
-    /// The size of the whole event in bytes, this header included.
-    pub size: u32,
-    /// The position in the file just after the event, in bytes from the file's start.
-    pub end: u32,
-    pub flags: u16,
-}
 
 /// Appends a header, 19 bytes. Without memory the output stays as it was.
 pub fn write_header(_alloc: Global, out: &mut Vec<u8>, header: &Header) -> Result<(), NoMemory>

@@ -1,19 +1,36 @@
-//! The events of the binary log that every epoch and every file needs, as bytes: the header, the format
-//! description, BEGIN and other queries, rotations, the end of a transaction, and table maps.
+//! The events of the binary log that every epoch and every file needs, as bytes, written and read: the header, the
+//! format description, BEGIN and other queries, rotations, the end of a transaction, and table maps.
 //!
-//! One contract holds throughout: a writer appends exactly the bytes that the definitions of the log give for its
-//! event at that position, and without memory it leaves the output as it was. Below stand the values and the
-//! definitions of the log; above stand the writers of epochs and of files.
+//! Two contracts hold throughout. A writer appends exactly the bytes that the definitions of the log give for its
+//! event at that position, and without memory it leaves the output as it was. A reader answers exactly what the
+//! definitions of reading give for its bytes: the value, or the first field that is not there or is wrong, with its
+//! place. Those that make a value with a list in it may want memory instead. Below stand the values and the
+//! definitions of the log, whose laws say that what is written is read back; above stand the writers of epochs and of
+//! files, the readers of rows, which read field by field with [`Fields`], and the decoder.
 #![tactic(auto)]
 
+mod bitmap;
 mod event;
+mod event_types;
+mod fields;
 mod fixed;
 mod header;
+mod mapped;
+mod read;
 mod table_map;
 
+pub use bitmap::{all_clear, all_set};
 pub use event::write_event;
+pub use event_types::{
+    DELETE_ROWS_EVENT, FORMAT_DESCRIPTION_EVENT, QUERY_EVENT, ROTATE_EVENT, TABLE_MAP_EVENT,
+    UPDATE_ROWS_EVENT, WRITE_ROWS_EVENT, XID_EVENT, is_known,
+};
+pub use fields::{Fields, check};
 pub use fixed::{write_format, write_query, write_rotate, write_xid};
-pub use header::{Header, write_header};
+pub use header::write_header;
+pub use mapped::{is_status, read_table_map};
+pub use rb_read_defs::{Header, QueryText, RotateTo};
+pub use read::{read_format, read_header, read_query, read_rotate, read_xid};
 pub use table_map::write_table_map;
 
 #[cfg(test)]

@@ -6,11 +6,11 @@ ghost use Rattle.byteorder.specs.Endian.{little_bytes};
 ghost use Rattle.rb_log_defs.specs.Fits.{CanBeMapped};
 
 use crate::event::write_event;
+use crate::event_types::TABLE_MAP_EVENT;
+use crate::mapped::{LONG, LONGLONG, VARCHAR};
 use byteorder::{ByteOrder, LittleEndian};
 use rb_base::{Column, Mapped, NoMemory, write_length};
 use std::alloc::Global;
-
-const TABLE_MAP_EVENT: u8 = 19;
 
 /// Appends the event that says which table the id `table.id` means in the rows events after it, of the server
 /// `server`, starting at `start`. Without memory the output stays as it was.
@@ -76,9 +76,9 @@ fn type_code(column: Column) -> u8
     ensures { result ≡ type_of column }
 {
     match column {
-        Column::Num => 8,
-        Column::Long => 3,
-        Column::Text(_) => 15,
+        Column::Num => LONGLONG,
+        Column::Long => LONG,
+        Column::Text(_) => VARCHAR,
     }
 }
 

@@ -2,7 +2,7 @@ ghost use Rattle.std.specs.Prelude.{◌<◌, ◌≤◌, length, IfOk};
 ghost use Rattle.rb_log_defs.specs.Fits.{CanBeMapped};
 
 use super::*;
-use rb_base::{Column, Items, Mapped, NoMemory};
+use rb_base::{CodecFault, Column, Field, Items, Mapped, NoMemory};
 use std::alloc::Global;
 use std::test::Fail;
 
@@ -121,5 +121,184 @@ fn table_maps(rt: HostRuntime) -> Result<(), Fail> {
     let mut out = Vec::new(rt.alloc());
     write_table_map(rt.alloc(), &mut out, 1, 215, &user)?;
     assert_eq!(rt; out.as_slice(), TABLE_MAP.as_slice());
+    Ok(())
+}
+
+/// What stands behind the header of each event above.
+const AT_PAYLOAD: usize = 19;
+
+/// A header of the type 99 at the file's start, with LOG_EVENT_IGNORABLE_F, and the end not said.
+const IGNORABLE: [u8; 19] = [
+    9, 9, 9, 9, 0x63, 1, 0, 0, 0, 0x13, 0, 0, 0, 0, 0, 0, 0, 0x80, 0,
+];
+
+#[test]
+fn headers_read(rt: HostRuntime) {
+    let header = Header {
+        kind: 16,
+        server: 1,
+        size: 27,
+        end: 200,
+        flags: 0x0102,
+    };
+    assert_eq!(rt; read_header(&HEADER, 173), Ok(header));
+    assert_eq!(rt; read_header(&HEADER[..12], 173), Err(CodecFault::Short(9)));
+    assert_eq!(rt;
+        read_header(&HEADER, 174),
+        Err(CodecFault::BadField(13, Field::EndPosition))
+    );
+    let skipped = Header {
+        kind: 99,
+        server: 1,
+        size: 19,
+        end: 0,
+        flags: 0x80,
+    };
+    assert_eq!(rt; read_header(&IGNORABLE, 0), Ok(skipped));
+    assert_eq!(rt;
+        read_header(&IGNORABLE[..18], 0),
+        Err(CodecFault::Short(17))
+    );
+    let mut unknown = IGNORABLE;
+    unknown[17] = 0x7f;
+    assert_eq!(rt;
+        read_header(&unknown, 0),
+        Err(CodecFault::BadField(4, Field::EventType))
+    );
+    let mut small = IGNORABLE;
+    small[9] = 18;
+    assert_eq!(rt;
+        read_header(&small, 0),
+        Err(CodecFault::BadField(9, Field::EventSize))
+    );
+}
+
+#[test]
+fn formats_read(rt: HostRuntime) {
+    let payload = &FORMAT[AT_PAYLOAD..];
+    assert_eq!(rt; read_format(payload), Ok(()));
+    assert_eq!(rt; read_format(&payload[..51]), Err(CodecFault::Short(2)));
+    assert_eq!(rt;
+        read_format(&payload[..88]),
+        Err(CodecFault::BadField(57, Field::PostHeader))
+    );
+    let mut other = FORMAT;
+    other[19] = 3;
+    assert_eq!(rt;
+        read_format(&other[AT_PAYLOAD..]),
+        Err(CodecFault::BadField(0, Field::Version))
+    );
+}
+
+#[test]
+fn queries_read(rt: HostRuntime) {
+    let payload = &BEGIN[AT_PAYLOAD..];
+    assert_eq!(rt; read_query(payload), Ok(QueryText::Begin));
+    assert_eq!(rt; read_query(&payload[..10]), Err(CodecFault::Short(9)));
+    assert_eq!(rt;
+        read_query(&payload[..18]),
+        Err(CodecFault::BadField(14, Field::QueryText))
+    );
+    // Of thread 7, with the schema db, and three bytes of status variables before it.
+    let commit = [
+        7, 0, 0, 0, 1, 0, 0, 0, 2, 0, 0, 3, 0, 0x0a, 0x0b, 0x0c, 0x64, 0x62, 0, 0x43, 0x4f, 0x4d,
+        0x4d, 0x49, 0x54,
+    ];
+    assert_eq!(rt; read_query(&commit), Ok(QueryText::Commit));
+    assert_eq!(rt; read_query(&commit[..15]), Err(CodecFault::Short(13)));
+}
+
+#[test]
+fn xids_and_rotations_read(rt: HostRuntime) -> Result<(), Fail> {
+    assert_eq!(rt; read_xid(&XID[AT_PAYLOAD..]), Ok(7));
+    assert_eq!(rt; read_xid(&[7, 0, 0, 0, 0, 0, 0]), Err(CodecFault::Short(0)));
+    assert_eq!(rt;
+        read_xid(&[7, 0, 0, 0, 0, 0, 0, 1, 0]),
+        Err(CodecFault::BadField(8, Field::EventSize))
+    );
+    let to = read_rotate(rt.alloc(), &ROTATE[AT_PAYLOAD..])
+        .ok()
+        .ok_or("a rotation")?;
+    assert_eq!(rt; to.position, 4);
+    assert_eq!(rt; to.name.as_slice(), b"a-bin.000002".as_slice());
+    assert!(rt; matches!(read_rotate(rt.alloc(), &[4, 0]), Err(CodecFault::Short(0))));
+    Ok(())
+}
+
+/// Table 5, db.t: a LONGLONG, a LONG and a VARCHAR of at most 300 bytes; behind the null bitmap optional metadata. The
+/// bits behind the three columns' are set.
+const OTHER_MAP: [u8; 28] = [
+    5, 0, 0, 0, 0, 0, 1, 0, 2, 0x64, 0x62, 0, 1, 0x74, 0, 3, 8, 3, 0x0f, 0xfc, 2, 0, 0x2c, 1, 0xf8,
+    1, 2, 3,
+];
+
+#[test]
+fn table_maps_read(rt: HostRuntime) -> Result<(), Fail> {
+    let table = read_table_map(rt.alloc(), &OTHER_MAP)
+        .ok()
+        .ok_or("a table map")?;
+    assert_eq!(rt; table.id, 5);
+    assert_eq!(rt; table.schema.as_slice(), b"db".as_slice());
+    assert_eq!(rt; table.name.as_slice(), b"t".as_slice());
+    let columns = [Column::Num, Column::Long, Column::Text(300)];
+    assert_eq!(rt; table.columns.as_slice(), columns.as_slice());
+    assert!(rt; read_table_map(rt.alloc(), &STATUS_MAP[AT_PAYLOAD..]).is_ok());
+    assert!(rt;
+        matches!(
+            read_table_map(rt.alloc(), &OTHER_MAP[..23]),
+            Err(CodecFault::Short(22))
+        )
+    );
+    let mut other = OTHER_MAP;
+    other[16] = 3;
+    let read = read_table_map(rt.alloc(), &other);
+    assert!(rt; matches!(read, Err(CodecFault::BadField(16, Field::ColumnType))));
+    let mut other = OTHER_MAP;
+    other[24] = 0xfc;
+    let read = read_table_map(rt.alloc(), &other);
+    assert!(rt; matches!(read, Err(CodecFault::BadField(24, Field::Null))));
+    Ok(())
+}
+
+#[test]
+fn bitmaps_and_names(rt: HostRuntime) {
+    assert!(rt; all_set(9, &[0xff, 0x03]));
+    assert!(rt; !all_set(9, &[0xff, 0x02]));
+    assert!(rt; all_clear(64, &[0, 0, 0, 0, 0, 0, 0, 0]));
+    assert!(rt; !all_clear(64, &[0, 0, 0, 0, 0, 0, 0, 0x80]));
+    assert!(rt; is_status(b"mysql", b"ndb_apply_status"));
+    assert!(rt; !is_status(b"mysql", b"ndb_apply_statu"));
+}
+
+#[test]
+#[tactic(auto, using(rb_log_defs::proofs::Sizes::table_map_bound))]
+fn what_is_written_is_read(rt: HostRuntime) -> Result<(), Fail> {
+    let mut out = Vec::new(rt.alloc());
+    write_xid(rt.alloc(), &mut out, 1, 173, 18446744073709551615)?;
+    let header = Header {
+        kind: 16,
+        server: 1,
+        size: 27,
+        end: 200,
+        flags: 0,
+    };
+    assert_eq!(rt; read_header(&out, 173), Ok(header));
+    assert_eq!(rt; read_xid(&out[AT_PAYLOAD..]), Ok(18446744073709551615));
+    let mut out = Vec::new(rt.alloc());
+    write_rotate(rt.alloc(), &mut out, 1, 683, 4, b"b-bin.000003")?;
+    let to = read_rotate(rt.alloc(), &out[AT_PAYLOAD..])
+        .ok()
+        .ok_or("a rotation")?;
+    assert_eq!(rt; to.name.as_slice(), b"b-bin.000003".as_slice());
+    let columns = [Column::Num, Column::Text(65535), Column::Text(7)];
+    let mapped = table(rt.alloc(), 65535, b"s", b"names", &columns)?;
+    let mut out = Vec::new(rt.alloc());
+    write_table_map(rt.alloc(), &mut out, 1, 215, &mapped)?;
+    let payload = out.get(AT_PAYLOAD..).ok_or("a payload")?;
+    let read = read_table_map(rt.alloc(), payload)
+        .ok()
+        .ok_or("a table map")?;
+    assert_eq!(rt; read.id, 65535);
+    assert_eq!(rt; read.columns.as_slice(), columns.as_slice());
     Ok(())
 }

@@ -1,3 +1,4 @@
-pub mod Values
+pub mod Payloads
+pub mod Sizes
 pub mod Steps
 pub mod Whole

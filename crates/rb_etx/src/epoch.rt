@@ -1,41 +1,68 @@
-ghost use Rattle.std.specs.Prelude.{◌≡◌, ◌+◌, ◌^◌, ◌<◌, ◌≤◌, ◌++◌, length, map, drop, All, IfOk, OnOk};
+ghost use Rattle.std.specs.Prelude.{ℕ, ◌≡◌, ◌+◌, ◌^◌, ◌<◌, ◌≤◌, ◌++◌, length, map, drop, All, Err, IfOk, OnOk};
 ghost use Rattle.rb_log_defs.specs.Table.{table_map_event, columns_of};
 ghost use Rattle.rb_log_defs.specs.Rows.{end_flag};
 ghost use Rattle.rb_log_defs.specs.Epoch.{joined_from, change_events, epoch_bytes};
 ghost use Rattle.rb_log_defs.specs.Fits.{CanBeMapped, Fits, CanBeWritten};
+ghost use Rattle.rb_rows.specs.Written.{flag_of};
 
-use crate::rows::write_change;
-use crate::status::{status_table, write_status};
-use rb_base::{Change, Column, EpochBody, Mapped, NoMemory};
+use crate::event::{write_change, write_status_event};
+use crate::fault::EncodeFault;
+use crate::size::size_of_epoch;
+use crate::table::{status_table, table_of};
+use rb_base::{Change, EpochBody, Mapped, NoMemory};
 use rb_codec::{write_query, write_table_map, write_xid};
 use std::alloc::Global;
 
+/// The most bytes that an epoch may have.
+const MOST_BYTES: u64 = 2147483647;
+
 /// The bytes of an epoch as one transaction of the log, whose first event starts at `start`, in bytes from the
-/// file's start.
-pub fn encode_epoch(alloc: Global, body: &EpochBody, start: u32) -> Result<Vec<u8>, NoMemory>
+/// file's start and below 2147483648. The epoch has at most 65536 tables, and fewer than 4294967296 changes.
+/// `TooLarge` names how many bytes it has, where they are more than 2147483647; `NoMemory` where they find no room.
+pub fn encode_epoch(alloc: Global, body: &EpochBody, start: u32) -> Result<Vec<u8>, EncodeFault>
     requires writable { CanBeWritten body.now }
-    requires fits { start + length (epoch_bytes body.now start) < 2 ^ 32 }
-    ensures { IfOk result (λ bytes. bytes.items ≡ epoch_bytes body.now start) }
+    requires few_tables { length body.now.tables ≤ 65536 }
+    requires few_changes { length body.now.changes < 4294967296 }
+    requires start { start < 2147483648 }
+    ensures ok { IfOk result (λ bytes. bytes.items ≡ epoch_bytes body.now start) }
+    ensures small { OnOk result (length (epoch_bytes body.now start) ≤ 2147483647) }
+    ensures too_large { (n : ℕ) → result ≡ Err (EncodeFault.TooLarge n) → (n ≡ length (epoch_bytes body.now start)) × (2147483647 < n) }
 {
-    let mut out = Vec::new(alloc);
-    write_query(alloc, &mut out, body.server, start, b"BEGIN")?;
+    let size = size_of_epoch(body);
+    if size > MOST_BYTES {
+        return Err(EncodeFault::TooLarge(size));
+    }
+    let mut bytes = Vec::with_capacity(alloc, size as usize)?;
+    write_epoch(alloc, &mut bytes, body, start)?;
+    Ok(bytes)
+}
+
+/// Appends an epoch to bytes that begin at `start`, in bytes from the file's start. Nothing is said of the bytes where
+/// there was no memory.
+pub fn write_epoch(
+    alloc: Global,
+    out: &mut Vec<u8>,
+    body: &EpochBody,
+    start: u32,
+) -> Result<(), NoMemory>
+    requires writable { CanBeWritten body.now }
+    requires fits { start + (length out.old.items + length (epoch_bytes body.now (start + length out.old.items))) < 2 ^ 32 }
+    ensures { OnOk result (out.new.items ≡ out.old.items ++ epoch_bytes body.now (start + length out.old.items)) }
+{
+    let (server, tables) = (body.server, body.tables.as_slice());
+    let at = position(start, out);
+    write_query(alloc, out, server, at, b"BEGIN")?;
     let status = status_table(alloc)?;
-    let at = position(start, &out);
-    write_table_map(alloc, &mut out, body.server, at, &status)?;
-    write_tables(alloc, &mut out, body.server, start, body.tables.as_slice())?;
-    let at = position(start, &out);
-    write_status(alloc, &mut out, body, at)?;
-    write_changes(
-        alloc,
-        &mut out,
-        body.server,
-        start,
-        body.tables.as_slice(),
-        body.changes.as_slice(),
-    )?;
-    let at = position(start, &out);
-    write_xid(alloc, &mut out, body.server, at, body.epoch.0)?;
-    Ok(out)
+    let at = position(start, out);
+    write_table_map(alloc, out, server, at, &status)?;
+    write_tables(alloc, out, server, start, tables)?;
+    let at = position(start, out);
+    write_status_event(alloc, out, body, at)?;
+    let changes = body.changes.as_slice();
+    write_changes(alloc, out, server, start, tables, changes)?;
+    let at = position(start, out);
+    write_xid(alloc, out, server, at, body.epoch.0)?;
+    Ok(())
 }
 
 /// Where the next event starts, behind bytes that begin at `start`.
@@ -75,43 +102,24 @@ fn write_changes(
     changes: &[Change],
 ) -> Result<(), NoMemory>
     requires fit { All (λ change. Fits (columns_of tables.now change.table) change) changes.now }
-    requires few { All (λ change. length (columns_of tables.now change.table) ≤ 64) changes.now }
+    requires mapped { All (λ change. (0 < length (columns_of tables.now change.table)) × (length (columns_of tables.now change.table) ≤ 64)) changes.now }
     requires fits { start + (length out.old.items + length (joined_from (start + length out.old.items) (change_events server tables.now changes.now))) < 2 ^ 32 }
     ensures { OnOk result (out.new.items ≡ out.old.items ++ joined_from (start + length out.old.items) (change_events server tables.now changes.now)) }
 {
     for index in 0..changes.len() {
         let change = &changes[index];
-        let columns = columns_of(tables, change.table);
+        let table = table_of(tables, change.table);
         let at = position(start, out);
-        write_change(
-            alloc,
-            out,
-            server,
-            at,
-            columns,
-            change,
-            flags_at(changes, index),
-        )?;
+        let last = is_last(changes, index);
+        write_change(alloc, out, server, at, table, change, last)?;
     }
     Ok(())
 }
 
-/// The flags of a rows event of these changes: 1 where it is the last.
-fn flags_at(changes: &[Change], index: usize) -> u16
+/// Whether no change stands behind this one.
+fn is_last(changes: &[Change], index: usize) -> bool
     requires { index < length changes.now }
-    ensures { result ≡ end_flag (drop (index + 1) changes.now) }
+    ensures { flag_of result ≡ end_flag (drop (index + 1) changes.now) }
 {
-    if index + 1 == changes.len() { 1 } else { 0 }
-}
-
-/// The columns of the table with an id, and none where no table has it.
-fn columns_of(tables: &[Mapped], id: u16) -> &[Column]
-    ensures { result.now ≡ columns_of tables.now id }
-{
-    for table in tables {
-        if table.id == id {
-            return table.columns.as_slice();
-        }
-    }
-    &[]
+    index + 1 == changes.len()
 }

@@ -1,17 +1,20 @@
 //! An epoch as one transaction of the binary log: BEGIN, the maps of its tables, the apply-status rows, a rows
 //! event for each change, and the XID.
 //!
-//! The one contract is that of [`encode_epoch`]: its result is exactly the bytes that the definitions of the log
-//! give for the epoch at that position. Below stand the values, the definitions of the log and the writers of its
-//! single events; above stands the log's file.
+//! [`encode_epoch`] gives exactly the bytes that the definitions of the log give for the epoch at that position, or
+//! says that they are too many; [`size_of_epoch`] counts them. Below stand the values, the definitions of the log, the
+//! writers of its single events and those of the payloads of rows events; above stands the log's file.
 #![tactic(auto)]
 
 mod epoch;
-mod image;
-mod rows;
-mod status;
+mod event;
+mod fault;
+mod size;
+mod table;
 
-pub use epoch::encode_epoch;
+pub use epoch::{encode_epoch, write_epoch};
+pub use fault::EncodeFault;
+pub use size::size_of_epoch;
 
 #[cfg(test)]
 mod tests;

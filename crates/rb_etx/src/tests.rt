@@ -102,3 +102,10 @@ fn reflected_epochs(rt: HostRuntime) -> Result<(), Fail> {
     assert_eq!(rt; bytes.as_slice(), REFLECTED.as_slice());
     Ok(())
 }
+
+#[test]
+fn sizes(rt: HostRuntime) -> Result<(), Fail> {
+    assert_eq!(rt; size_of_epoch(&texts(rt.alloc())?), 373);
+    assert_eq!(rt; size_of_epoch(&reflected_alone(rt.alloc())?), 218);
+    Ok(())
+}

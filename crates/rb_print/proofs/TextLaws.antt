@@ -20,6 +20,10 @@ one_more_piece f old xs i d lt = flat_map_more f old (take i xs) (get_or xs i d)
 pub behind_four : (old a b c d last : List ℕ) → ((((old ++ a) ++ b) ++ c) ++ d) ++ last ≡ old ++ concat (a ∷ b ∷ c ∷ d ∷ last ∷ [])
 behind_four old a b c d last = simp (append_assoc, append-nil)
 
+-- eight pieces, and a last one
+pub behind_eight : (old a b c d e f g h last : List ℕ) → ((((((((old ++ a) ++ b) ++ c) ++ d) ++ e) ++ f) ++ g) ++ h) ++ last ≡ old ++ concat (a ∷ b ∷ c ∷ d ∷ e ∷ f ∷ g ∷ h ∷ last ∷ [])
+behind_eight old a b c d e f g h last = simp (append_assoc, append-nil)
+
 concat_end : (pieces : List (List ℕ)) (last : List ℕ) → concat (pieces ++ last ∷ []) ≡ concat pieces ++ last
 concat_end [] last = append-nil last
 concat_end (piece ∷ pieces) last = ap (λ text. piece ++ text) (concat_end pieces last) ∙ sym (append_assoc piece (concat pieces) last)

@@ -14,9 +14,9 @@ pub fn print_outcome(alloc: Global, line: u32, outcome: &Outcome) -> Result<Byte
     ensures { IfOk result (λ text. text ≡ outcome_line line outcome.now ++ 10 ∷ []) }
 {
     let mut text = Vec::new(alloc);
-    put_number(alloc, &mut text, b"", u64::from(line))?;
+    put_number(&mut text, b"", u64::from(line))?;
     put(&mut text, b" ")?;
-    put_outcome(alloc, &mut text, outcome)?;
+    put_outcome(&mut text, outcome)?;
     text.push(b'\n')?;
     Ok(Bytes::from_vec(text))
 }
@@ -33,21 +33,15 @@ pub fn print_table(
     ensures { IfOk result (λ text. text ≡ text_of_lines (table_lines site (record { name = name.now; rows = rows.now }))) }
 {
     let mut text = Vec::new(alloc);
-    put_head(alloc, &mut text, site, name, rows.len() as u64)?;
+    put_head(&mut text, site, name, rows.len() as u64)?;
     text.push(b'\n')?;
-    put_rows(alloc, &mut text, rows)?;
+    put_rows(&mut text, rows)?;
     Ok(Bytes::from_vec(text))
 }
 
 /// Appends a table's name and the count of its rows.
 #[tactic(auto, using(crate::proofs::TextLaws::behind_four))]
-fn put_head(
-    alloc: Global,
-    text: &mut Vec<u8>,
-    site: SiteId,
-    name: &[u8],
-    count: u64,
-) -> Result<(), NoMemory>
+fn put_head(text: &mut Vec<u8>, site: SiteId, name: &[u8], count: u64) -> Result<(), NoMemory>
     ensures { OnOk result (text.new.items ≡ text.old.items
         ++ concat (codes "table " ∷ letter_of site ∷ codes " " ∷ name.now ∷ labelled (codes " rows=") count ∷ [])) }
 {
@@ -55,16 +49,16 @@ fn put_head(
     put(text, letter(site))?;
     put(text, b" ")?;
     put(text, name)?;
-    put_number(alloc, text, b" rows=", count)?;
+    put_number(text, b" rows=", count)?;
     Ok(())
 }
 
 /// Appends a line for each row.
-fn put_rows(alloc: Global, text: &mut Vec<u8>, rows: &[Row]) -> Result<(), NoMemory>
+fn put_rows(text: &mut Vec<u8>, rows: &[Row]) -> Result<(), NoMemory>
     ensures { OnOk result (text.new.items ≡ text.old.items ++ flat_map (λ row. row_line row ++ 10 ∷ []) rows.now) }
 {
     for row in rows {
-        put_row(alloc, text, row)?;
+        put_row(text, row)?;
         text.push(b'\n')?;
     }
     Ok(())
@@ -85,7 +79,6 @@ pub fn print_log(
     put(&mut text, b"log ")?;
     put(&mut text, letter(site))?;
     put_numbers(
-        alloc,
         &mut text,
         &[
             Labelled(b" files=", u64::from(files)),

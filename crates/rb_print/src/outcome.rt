@@ -6,15 +6,10 @@ ghost use Rattle.rb_print.specs.Groups.{is_of_nodes, is_of_site};
 
 use crate::put::{Labelled, letter, put, put_number, put_numbers};
 use rb_base::{Epoch, Listed, NoMemory, Outcome, SiteId};
-use std::alloc::Global;
 
 /// Appends what an event did.
 #[tactic(auto, unfolding(rb_text_defs::specs::Report::outcome_text))]
-pub(crate) fn put_outcome(
-    alloc: Global,
-    text: &mut Vec<u8>,
-    outcome: &Outcome,
-) -> Result<(), NoMemory>
+pub(crate) fn put_outcome(text: &mut Vec<u8>, outcome: &Outcome) -> Result<(), NoMemory>
     ensures { OnOk result (text.new.items ≡ text.old.items ++ outcome_text outcome.now) }
 {
     match outcome {
@@ -22,22 +17,22 @@ pub(crate) fn put_outcome(
             transid,
             epoch,
             sent,
-        } => put_committed(alloc, text, *transid, *epoch, *sent),
-        Outcome::RowTwice(number) => put_number(alloc, text, b"row twice ", u64::from(*number)),
-        Outcome::KeyThere(number) => put_number(alloc, text, b"key there ", u64::from(*number)),
-        Outcome::NoKey(number) => put_number(alloc, text, b"no key ", u64::from(*number)),
-        Outcome::Closed { epoch, sent } => put_closed(alloc, text, *epoch, *sent),
+        } => put_committed(text, *transid, *epoch, *sent),
+        Outcome::RowTwice(number) => put_number(text, b"row twice ", u64::from(*number)),
+        Outcome::KeyThere(number) => put_number(text, b"key there ", u64::from(*number)),
+        Outcome::NoKey(number) => put_number(text, b"no key ", u64::from(*number)),
+        Outcome::Closed { epoch, sent } => put_closed(text, *epoch, *sent),
         Outcome::Kept => put(text, b"kept"),
         Outcome::Known => put(text, b"known"),
         Outcome::Old => put(text, b"old"),
-        Outcome::NoMessage { place, sent } => put_no_message(alloc, text, *place, *sent),
-        Outcome::Delivered { kept, known, old } => put_delivered(alloc, text, *kept, *known, *old),
+        Outcome::NoMessage { place, sent } => put_no_message(text, *place, *sent),
+        Outcome::Delivered { kept, known, old } => put_delivered(text, *kept, *known, *old),
         Outcome::Wrote {
             count,
             written,
             bucket,
             place,
-        } => put_wrote(alloc, text, *count, *written, *bucket, *place),
+        } => put_wrote(text, *count, *written, *bucket, *place),
         Outcome::Logged {
             kept,
             known,
@@ -47,57 +42,49 @@ pub(crate) fn put_outcome(
             bucket,
             place,
         } => {
-            put_delivered(alloc, text, *kept, *known, *old)?;
-            put_wrote_too(alloc, text, *count, *written, *bucket, *place)?;
+            put_delivered(text, *kept, *known, *old)?;
+            put_wrote_too(text, *count, *written, *bucket, *place)?;
             Ok(())
         }
-        _ => put_nodes(alloc, text, outcome),
+        _ => put_nodes(text, outcome),
     }
 }
 
 /// Appends what an event of data nodes did, or one of the log's way to the peer.
 #[tactic(auto, unfolding(rb_text_defs::specs::Report::outcome_text))]
-fn put_nodes(alloc: Global, text: &mut Vec<u8>, outcome: &Outcome) -> Result<(), NoMemory>
+fn put_nodes(text: &mut Vec<u8>, outcome: &Outcome) -> Result<(), NoMemory>
     requires { is_of_site outcome.now ≡ false }
     ensures { OnOk result (text.new.items ≡ text.old.items ++ outcome_text outcome.now) }
 {
     match outcome {
-        Outcome::Failed { takeover, sent } => put_failed(alloc, text, *takeover, *sent),
-        Outcome::Lost { group, epoch } => put_lost(alloc, text, b"lost ", *group, *epoch),
-        Outcome::NodeDown(node) => put_number(alloc, text, b"node down ", u64::from(*node)),
-        Outcome::Restarted { since } => put_number(alloc, text, b"restarted since=", since.0),
-        Outcome::NodeUp(node) => put_number(alloc, text, b"node up ", u64::from(*node)),
-        Outcome::Resent { sent } => put_number(alloc, text, b"resent sent=", *sent),
-        Outcome::Recovered { written, sent } => put_recovered(alloc, text, *written, *sent),
-        Outcome::DrainLost { site, group, epoch } => {
-            put_drain_lost(alloc, text, *site, *group, *epoch)
-        }
-        Outcome::SiteLost { group, epoch } => put_lost(alloc, text, b"site lost ", *group, *epoch),
-        _ => put_stream(alloc, text, outcome),
+        Outcome::Failed { takeover, sent } => put_failed(text, *takeover, *sent),
+        Outcome::Lost { group, epoch } => put_lost(text, b"lost ", *group, *epoch),
+        Outcome::NodeDown(node) => put_number(text, b"node down ", u64::from(*node)),
+        Outcome::Restarted { since } => put_number(text, b"restarted since=", since.0),
+        Outcome::NodeUp(node) => put_number(text, b"node up ", u64::from(*node)),
+        Outcome::Resent { sent } => put_number(text, b"resent sent=", *sent),
+        Outcome::Recovered { written, sent } => put_recovered(text, *written, *sent),
+        Outcome::DrainLost { site, group, epoch } => { put_drain_lost(text, *site, *group, *epoch) }
+        Outcome::SiteLost { group, epoch } => put_lost(text, b"site lost ", *group, *epoch),
+        _ => put_stream(text, outcome),
     }
 }
 
 /// Appends what an event of the log's way to the peer did.
 #[tactic(auto, unfolding(rb_text_defs::specs::Report::outcome_text))]
-fn put_stream(alloc: Global, text: &mut Vec<u8>, outcome: &Outcome) -> Result<(), NoMemory>
+fn put_stream(text: &mut Vec<u8>, outcome: &Outcome) -> Result<(), NoMemory>
     requires site { is_of_site outcome.now ≡ false }
     requires nodes { is_of_nodes outcome.now ≡ false }
     ensures { OnOk result (text.new.items ≡ text.old.items ++ outcome_text outcome.now) }
 {
     match outcome {
-        Outcome::Taken { file, position } => put_place(
-            alloc,
-            text,
-            b"taken file=",
-            *file,
-            *position,
-        ),
+        Outcome::Taken { file, position } => put_place(text, b"taken file=", *file, *position),
         Outcome::NotNext { file, position } => {
-            put_place(alloc, text, b"not next file=", *file, *position)?;
+            put_place(text, b"not next file=", *file, *position)?;
             Ok(())
         }
         Outcome::ApplierAt { file, position } => {
-            put_place(alloc, text, b"restarted file=", *file, *position)?;
+            put_place(text, b"restarted file=", *file, *position)?;
             Ok(())
         }
         Outcome::Applied {
@@ -106,14 +93,14 @@ fn put_stream(alloc: Global, text: &mut Vec<u8>, outcome: &Outcome) -> Result<()
             rejected,
             refreshed,
             sent,
-        } => put_applied(alloc, text, *epoch, *accepted, *rejected, *refreshed, *sent),
+        } => put_applied(text, *epoch, *accepted, *rejected, *refreshed, *sent),
         Outcome::Nothing => put(text, b"nothing"),
         Outcome::Flowed {
             count,
             file,
             position,
-        } => put_flowed(alloc, text, *count, *file, *position),
-        Outcome::Dumped { files, events } => put_dumped(alloc, text, *files, events.as_slice()),
+        } => put_flowed(text, *count, *file, *position),
+        Outcome::Dumped { files, events } => put_dumped(text, *files, events.as_slice()),
         Outcome::Drained => put(text, b"drained"),
         // No outcome is left here: the callers take all others.
         _ => Ok(()),
@@ -122,17 +109,10 @@ fn put_stream(alloc: Global, text: &mut Vec<u8>, outcome: &Outcome) -> Result<()
 
 /// A transaction is committed.
 #[tactic(auto, unfolding(rb_text_defs::specs::Report::outcome_text))]
-fn put_committed(
-    alloc: Global,
-    text: &mut Vec<u8>,
-    transid: u64,
-    epoch: Epoch,
-    sent: u64,
-) -> Result<(), NoMemory>
+fn put_committed(text: &mut Vec<u8>, transid: u64, epoch: Epoch, sent: u64) -> Result<(), NoMemory>
     ensures { OnOk result (text.new.items ≡ text.old.items ++ outcome_text (outcomes.Committed transid epoch sent)) }
 {
     put_numbers(
-        alloc,
         text,
         &[
             Labelled(b"ok transid=", transid),
@@ -144,11 +124,10 @@ fn put_committed(
 
 /// An epoch is closed.
 #[tactic(auto, unfolding(rb_text_defs::specs::Report::outcome_text))]
-fn put_closed(alloc: Global, text: &mut Vec<u8>, epoch: Epoch, sent: u64) -> Result<(), NoMemory>
+fn put_closed(text: &mut Vec<u8>, epoch: Epoch, sent: u64) -> Result<(), NoMemory>
     ensures { OnOk result (text.new.items ≡ text.old.items ++ outcome_text (outcomes.Closed epoch sent)) }
 {
     put_numbers(
-        alloc,
         text,
         &[Labelled(b"closed ", epoch.0), Labelled(b" sent=", sent)],
     )
@@ -156,11 +135,10 @@ fn put_closed(alloc: Global, text: &mut Vec<u8>, epoch: Epoch, sent: u64) -> Res
 
 /// There is no message at a place.
 #[tactic(auto, unfolding(rb_text_defs::specs::Report::outcome_text))]
-fn put_no_message(alloc: Global, text: &mut Vec<u8>, place: u64, sent: u64) -> Result<(), NoMemory>
+fn put_no_message(text: &mut Vec<u8>, place: u64, sent: u64) -> Result<(), NoMemory>
     ensures { OnOk result (text.new.items ≡ text.old.items ++ outcome_text (outcomes.NoMessage place sent)) }
 {
     put_numbers(
-        alloc,
         text,
         &[Labelled(b"no message ", place), Labelled(b" ", sent)],
     )
@@ -168,17 +146,10 @@ fn put_no_message(alloc: Global, text: &mut Vec<u8>, place: u64, sent: u64) -> R
 
 /// Messages are delivered.
 #[tactic(auto, unfolding(rb_text_defs::specs::Report::outcome_text))]
-fn put_delivered(
-    alloc: Global,
-    text: &mut Vec<u8>,
-    kept: u64,
-    known: u64,
-    old: u64,
-) -> Result<(), NoMemory>
+fn put_delivered(text: &mut Vec<u8>, kept: u64, known: u64, old: u64) -> Result<(), NoMemory>
     ensures { OnOk result (text.new.items ≡ text.old.items ++ delivered_text kept known old) }
 {
     put_numbers(
-        alloc,
         text,
         &[
             Labelled(b"delivered kept=", kept),
@@ -191,7 +162,6 @@ fn put_delivered(
 /// Epochs are written, and this is the first thing that is missing.
 #[tactic(auto, using(crate::proofs::TextLaws::behind_two))]
 fn put_wrote(
-    alloc: Global,
     text: &mut Vec<u8>,
     count: u64,
     written: Epoch,
@@ -200,16 +170,15 @@ fn put_wrote(
 ) -> Result<(), NoMemory>
     ensures { OnOk result (text.new.items ≡ text.old.items ++ wrote_text count written bucket place) }
 {
-    put_number(alloc, text, b"wrote ", count)?;
-    put_number(alloc, text, b" written=", written.0)?;
-    put_missing(alloc, text, bucket, place)?;
+    put_number(text, b"wrote ", count)?;
+    put_number(text, b" written=", written.0)?;
+    put_missing(text, bucket, place)?;
     Ok(())
 }
 
 /// The same behind a space.
 #[tactic(auto, using(crate::proofs::TextLaws::behind_one))]
 fn put_wrote_too(
-    alloc: Global,
     text: &mut Vec<u8>,
     count: u64,
     written: Epoch,
@@ -220,23 +189,18 @@ fn put_wrote_too(
         ≡ text.old.items ++ concat (codes " " ∷ wrote_text count written bucket place ∷ [])) }
 {
     put(text, b" ")?;
-    put_wrote(alloc, text, count, written, bucket, place)?;
+    put_wrote(text, count, written, bucket, place)?;
     Ok(())
 }
 
 /// The first thing that an event buffer misses: a bucket, and a place of it or its Done.
-fn put_missing(
-    alloc: Global,
-    text: &mut Vec<u8>,
-    bucket: u32,
-    place: Option<u32>,
-) -> Result<(), NoMemory>
+fn put_missing(text: &mut Vec<u8>, bucket: u32, place: Option<u32>) -> Result<(), NoMemory>
     ensures { OnOk result (text.new.items ≡ text.old.items ++ missing_text bucket place) }
 {
-    put_number(alloc, text, b" missing=", u64::from(bucket))?;
+    put_number(text, b" missing=", u64::from(bucket))?;
     match place {
         Some(place) => {
-            put_number(alloc, text, b":", u64::from(place))?;
+            put_number(text, b":", u64::from(place))?;
             Ok(())
         }
         None => {
@@ -248,11 +212,10 @@ fn put_missing(
 
 /// A node failed.
 #[tactic(auto, unfolding(rb_text_defs::specs::Report::outcome_text))]
-fn put_failed(alloc: Global, text: &mut Vec<u8>, takeover: u32, sent: u64) -> Result<(), NoMemory>
+fn put_failed(text: &mut Vec<u8>, takeover: u32, sent: u64) -> Result<(), NoMemory>
     ensures { OnOk result (text.new.items ≡ text.old.items ++ outcome_text (outcomes.Failed takeover sent)) }
 {
     put_numbers(
-        alloc,
         text,
         &[
             Labelled(b"failed takeover=", u64::from(takeover)),
@@ -262,18 +225,11 @@ fn put_failed(alloc: Global, text: &mut Vec<u8>, takeover: u32, sent: u64) -> Re
 }
 
 /// A node group is lost: a label, the group, and the epoch.
-fn put_lost(
-    alloc: Global,
-    text: &mut Vec<u8>,
-    label: &[u8],
-    group: u32,
-    epoch: Epoch,
-) -> Result<(), NoMemory>
+fn put_lost(text: &mut Vec<u8>, label: &[u8], group: u32, epoch: Epoch) -> Result<(), NoMemory>
     ensures { OnOk result (text.new.items
         ≡ text.old.items ++ concat (labelled label.now group ∷ labelled (codes " ") epoch.0 ∷ [])) }
 {
     put_numbers(
-        alloc,
         text,
         &[Labelled(label, u64::from(group)), Labelled(b" ", epoch.0)],
     )
@@ -281,16 +237,10 @@ fn put_lost(
 
 /// The injector recovered.
 #[tactic(auto, unfolding(rb_text_defs::specs::Report::outcome_text))]
-fn put_recovered(
-    alloc: Global,
-    text: &mut Vec<u8>,
-    written: Epoch,
-    sent: u64,
-) -> Result<(), NoMemory>
+fn put_recovered(text: &mut Vec<u8>, written: Epoch, sent: u64) -> Result<(), NoMemory>
     ensures { OnOk result (text.new.items ≡ text.old.items ++ outcome_text (outcomes.Recovered written sent)) }
 {
     put_numbers(
-        alloc,
         text,
         &[
             Labelled(b"recovered written=", written.0),
@@ -302,7 +252,6 @@ fn put_recovered(
 /// A node group of a site is lost.
 #[tactic(auto, unfolding(rb_text_defs::specs::Report::outcome_text))]
 fn put_drain_lost(
-    alloc: Global,
     text: &mut Vec<u8>,
     site: SiteId,
     group: u32,
@@ -312,23 +261,16 @@ fn put_drain_lost(
 {
     put(text, b"lost ")?;
     put(text, letter(site))?;
-    put_lost(alloc, text, b" ", group, epoch)?;
+    put_lost(text, b" ", group, epoch)?;
     Ok(())
 }
 
 /// A place in a log: a label, the file, and the position.
-fn put_place(
-    alloc: Global,
-    text: &mut Vec<u8>,
-    label: &[u8],
-    file: u32,
-    position: u64,
-) -> Result<(), NoMemory>
+fn put_place(text: &mut Vec<u8>, label: &[u8], file: u32, position: u64) -> Result<(), NoMemory>
     ensures { OnOk result (text.new.items
         ≡ text.old.items ++ concat (labelled label.now file ∷ labelled (codes " pos=") position ∷ [])) }
 {
     put_numbers(
-        alloc,
         text,
         &[
             Labelled(label, u64::from(file)),
@@ -340,7 +282,6 @@ fn put_place(
 /// An epoch is applied.
 #[tactic(auto, unfolding(rb_text_defs::specs::Report::outcome_text))]
 fn put_applied(
-    alloc: Global,
     text: &mut Vec<u8>,
     epoch: Epoch,
     accepted: u32,
@@ -351,7 +292,6 @@ fn put_applied(
     ensures { OnOk result (text.new.items ≡ text.old.items ++ outcome_text (outcomes.Applied epoch accepted rejected refreshed sent)) }
 {
     put_numbers(
-        alloc,
         text,
         &[
             Labelled(b"applied ", epoch.0),
@@ -365,17 +305,10 @@ fn put_applied(
 
 /// Epochs are applied up to a place.
 #[tactic(auto, unfolding(rb_text_defs::specs::Report::outcome_text))]
-fn put_flowed(
-    alloc: Global,
-    text: &mut Vec<u8>,
-    count: u64,
-    file: u32,
-    position: u64,
-) -> Result<(), NoMemory>
+fn put_flowed(text: &mut Vec<u8>, count: u64, file: u32, position: u64) -> Result<(), NoMemory>
     ensures { OnOk result (text.new.items ≡ text.old.items ++ outcome_text (outcomes.Flowed count file position)) }
 {
     put_numbers(
-        alloc,
         text,
         &[
             Labelled(b"flowed ", count),
@@ -386,36 +319,30 @@ fn put_flowed(
 }
 
 /// The events of a site's files.
-fn put_dumped(
-    alloc: Global,
-    text: &mut Vec<u8>,
-    files: u32,
-    events: &[Listed],
-) -> Result<(), NoMemory>
+fn put_dumped(text: &mut Vec<u8>, files: u32, events: &[Listed]) -> Result<(), NoMemory>
     ensures { OnOk result (text.new.items
         ≡ text.old.items ++ (labelled (codes "dumped files=") files ++ flat_map listed_text events.now)) }
 {
-    put_number(alloc, text, b"dumped files=", u64::from(files))?;
-    put_listed(alloc, text, events)?;
+    put_number(text, b"dumped files=", u64::from(files))?;
+    put_listed(text, events)?;
     Ok(())
 }
 
 /// Events of files, each on a line of its own.
-fn put_listed(alloc: Global, text: &mut Vec<u8>, events: &[Listed]) -> Result<(), NoMemory>
+fn put_listed(text: &mut Vec<u8>, events: &[Listed]) -> Result<(), NoMemory>
     ensures { OnOk result (text.new.items ≡ text.old.items ++ flat_map listed_text events.now) }
 {
     for event in events {
-        put_event(alloc, text, *event)?;
+        put_event(text, *event)?;
     }
     Ok(())
 }
 
 /// An event of a file, on a line of its own.
-fn put_event(alloc: Global, text: &mut Vec<u8>, event: Listed) -> Result<(), NoMemory>
+fn put_event(text: &mut Vec<u8>, event: Listed) -> Result<(), NoMemory>
     ensures { OnOk result (text.new.items ≡ text.old.items ++ listed_text event) }
 {
     put_numbers(
-        alloc,
         text,
         &[
             Labelled(b"\nevent file=", u64::from(event.file)),

@@ -2,8 +2,8 @@ ghost use Rattle.std.specs.Prelude.{◌≡◌, ◌++◌, map, OnOk};
 ghost use Rattle.std.specs.List.{concat};
 ghost use Rattle.rb_text_defs.specs.Report.{labelled, letter_of};
 
+use itoa::Buffer;
 use rb_base::{NoMemory, SiteId};
-use std::alloc::Global;
 
 /// A number behind its label.
 #[derive(Clone, Copy)]
@@ -17,31 +17,22 @@ pub(crate) fn put(text: &mut Vec<u8>, bytes: &[u8]) -> Result<(), NoMemory>
     Ok(())
 }
 
-/// Appends a number behind its label.
-pub(crate) fn put_number(
-    alloc: Global,
-    text: &mut Vec<u8>,
-    label: &[u8],
-    number: u64,
-) -> Result<(), NoMemory>
+/// Appends a number behind its label. The digits are made on the stack.
+pub(crate) fn put_number(text: &mut Vec<u8>, label: &[u8], number: u64) -> Result<(), NoMemory>
     ensures { OnOk result (text.new.items ≡ text.old.items ++ labelled label.now number) }
 {
     text.extend_from_slice(label)?;
-    text.extend_from_slice(number.to_string(alloc)?.as_bytes())?;
+    text.extend_from_slice(Buffer::new().format(number).as_bytes())?;
     Ok(())
 }
 
 /// Appends numbers, each behind its label.
-pub(crate) fn put_numbers(
-    alloc: Global,
-    text: &mut Vec<u8>,
-    numbers: &[Labelled<'_>],
-) -> Result<(), NoMemory>
+pub(crate) fn put_numbers(text: &mut Vec<u8>, numbers: &[Labelled<'_>]) -> Result<(), NoMemory>
     ensures { OnOk result (text.new.items
         ≡ text.old.items ++ concat (map (λ number. labelled number.0.now number.1) numbers.now)) }
 {
     for number in numbers {
-        put_number(alloc, text, number.0, number.1)?;
+        put_number(text, number.0, number.1)?;
     }
     Ok(())
 }

@@ -1,5 +1,9 @@
 use super::*;
-use rb_base::{Bytes, Epoch, Listed, ListedEvents, Outcome, Row, SiteId, Value, Values};
+use rb_base::{
+    Bytes, Change, Changes, Columns, Epoch, EpochBody, Kind, Listed, ListedEvents, Mapped,
+    MappedTables, Outcome, Row, SiteId, Value, Values,
+};
+use std::alloc::Global;
 use std::test::Fail;
 
 /// What lines say of events, by hand.
@@ -76,5 +80,91 @@ fn a_log(rt: HostRuntime) -> Result<(), Fail> {
         text.as_slice(),
         b"log A files=1 epochs=2 written=4294967296\n".as_slice()
     );
+    Ok(())
+}
+
+// A name or a text.
+fn bytes(alloc: Global, text: &[u8]) -> Result<Bytes, Fail> {
+    Ok(Bytes::from_vec(Vec::from_slice(alloc, text)?))
+}
+
+// A row with a text.
+fn row(alloc: Global, key: u64, text: &[u8]) -> Result<Row, Fail> {
+    let mut values = Values::new(alloc);
+    values.push(Value::Num(key))?;
+    values.push(Value::Text(bytes(alloc, text)?))?;
+    Ok(Row { values })
+}
+
+/// A change of each kind, each to a table of its own.
+fn changes_of_each_kind(alloc: Global) -> Result<Changes, Fail> {
+    let mut changes = Changes::new(alloc);
+    let images = [
+        (1u16, Kind::Insert, None, Some(row(alloc, 5, b"x")?)),
+        (
+            7,
+            Kind::Update,
+            Some(row(alloc, 5, b"x")?),
+            Some(row(alloc, 5, b"")?),
+        ),
+        (2, Kind::Remove, Some(row(alloc, 5, b"\n")?), None),
+    ];
+    for (table, kind, before, after) in images {
+        changes.push(Change {
+            table,
+            key: 5,
+            kind,
+            before,
+            after,
+            author: 1,
+            transid: 18446744073709551615,
+        })?;
+    }
+    Ok(changes)
+}
+
+/// An epoch with a change of each kind; one is to a table that is not among those of the epoch.
+#[test]
+fn an_epoch(rt: HostRuntime) -> Result<(), Fail> {
+    let alloc = rt.alloc();
+    let mut tables = MappedTables::new(alloc);
+    for id in [1u16, 7] {
+        tables.push(Mapped {
+            id,
+            schema: bytes(alloc, b"db")?,
+            name: bytes(alloc, if id == 1 { b"t" } else { b"a\"" })?,
+            columns: Columns::new(alloc),
+        })?;
+    }
+    let changes = changes_of_each_kind(alloc)?;
+    let body = EpochBody {
+        server: 2,
+        epoch: Epoch(4294967297),
+        reflected: Some(Epoch(9)),
+        tables,
+        changes,
+    };
+    let text = print_body(alloc, &body, 500)?;
+    assert_eq!(rt;
+        text.as_slice(),
+        b"epoch 4294967297 server=2 reflected=9 changes=3 end=500
+ins db.t transid=18446744073709551615 key=5 before=- after=(5 \"x\")
+upd db.a\\x22 transid=18446744073709551615 key=5 before=(5 \"x\") after=(5 \"\")
+del  transid=18446744073709551615 key=5 before=(5 \"\\x0a\") after=-
+"
+            .as_slice()
+    );
+    Ok(())
+}
+
+#[test]
+fn other_lines_of_a_log(rt: HostRuntime) -> Result<(), Fail> {
+    let text = print_rotation(rt.alloc(), 4, b"a-bin.000002")?;
+    assert_eq!(rt;
+        text.as_slice(),
+        b"rotate name=a-bin.000002 position=4\n".as_slice()
+    );
+    let text = print_rest(rt.alloc(), 240)?;
+    assert_eq!(rt; text.as_slice(), b"end rest=240\n".as_slice());
     Ok(())
 }

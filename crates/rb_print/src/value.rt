@@ -1,42 +1,56 @@
 ghost use Rattle.std.specs.Prelude.{◌≡◌, ◌<◌, ◌==◌, ◌&&◌, nat_le, not, ◌++◌, ◌∷◌, [], codes, OnOk};
-ghost use Rattle.std.specs.List.{flat_map};
+ghost use Rattle.std.specs.List.{flat_map, join_by};
 ghost use Rattle.rb_text_defs.specs.Report.{hex_digit, row_line, text_byte, value_text};
 
 use crate::put::{put, put_number};
 use rb_base::{NoMemory, Row, Value};
-use std::alloc::Global;
 
 /// Appends the line of a row, the key first.
 #[tactic(auto, unfolding(rb_text_defs::specs::Report::row_line))]
-pub(crate) fn put_row(alloc: Global, text: &mut Vec<u8>, row: &Row) -> Result<(), NoMemory>
+pub(crate) fn put_row(text: &mut Vec<u8>, row: &Row) -> Result<(), NoMemory>
     ensures { OnOk result (text.new.items ≡ text.old.items ++ row_line row.now) }
 {
     put(text, b"row")?;
-    put_values(alloc, text, row.values.as_slice())?;
+    put_values(text, row.values.as_slice())?;
     Ok(())
 }
 
+/// Appends values, a space between.
+pub(crate) fn put_joined(text: &mut Vec<u8>, values: &[Value]) -> Result<(), NoMemory>
+    ensures { OnOk result (text.new.items ≡ text.old.items ++ join_by value_text (codes " ") values.now) }
+{
+    match values.split_first() {
+        Some((first, others)) => {
+            put_value(text, first)?;
+            put_values(text, others)?;
+            Ok(())
+        }
+        None => Ok(()),
+    }
+}
+
 /// Appends values, a space before each.
-fn put_values(alloc: Global, text: &mut Vec<u8>, values: &[Value]) -> Result<(), NoMemory>
+fn put_values(text: &mut Vec<u8>, values: &[Value]) -> Result<(), NoMemory>
     ensures { OnOk result (text.new.items ≡ text.old.items ++ flat_map (λ value. 32 ∷ value_text value) values.now) }
 {
     for value in values {
-        put_value(alloc, text, value)?;
+        text.push(b' ')?;
+        put_value(text, value)?;
     }
     Ok(())
 }
 
-/// Appends a space and a value: a number, or a text in quotes.
-fn put_value(alloc: Global, text: &mut Vec<u8>, value: &Value) -> Result<(), NoMemory>
-    ensures { OnOk result (text.new.items ≡ text.old.items ++ (32 ∷ value_text value.now)) }
+/// Appends a value: a number, or a text in quotes.
+fn put_value(text: &mut Vec<u8>, value: &Value) -> Result<(), NoMemory>
+    ensures { OnOk result (text.new.items ≡ text.old.items ++ value_text value.now) }
 {
     match value {
         Value::Num(number) => {
-            put_number(alloc, text, b" ", *number)?;
+            put_number(text, b"", *number)?;
             Ok(())
         }
         Value::Text(bytes) => {
-            put(text, b" \"")?;
+            put(text, b"\"")?;
             put_bytes(text, bytes.as_slice())?;
             put(text, b"\"")?;
             Ok(())
@@ -44,8 +58,8 @@ fn put_value(alloc: Global, text: &mut Vec<u8>, value: &Value) -> Result<(), NoM
     }
 }
 
-/// Appends the bytes of a text.
-fn put_bytes(text: &mut Vec<u8>, bytes: &[u8]) -> Result<(), NoMemory>
+/// Appends the bytes of a text or a name.
+pub(crate) fn put_bytes(text: &mut Vec<u8>, bytes: &[u8]) -> Result<(), NoMemory>
     ensures { OnOk result (text.new.items ≡ text.old.items ++ flat_map text_byte bytes.now) }
 {
     for byte in bytes {

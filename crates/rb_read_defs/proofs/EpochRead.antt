@@ -21,7 +21,9 @@ use Rattle.rb_log_defs.proofs.Sizes.{event_length}
 use Rattle.rb_read_defs.specs.Reading.{Read, number}
 use Rattle.rb_read_defs.specs.Rows.{changes, statuses}
 use Rattle.rb_read_defs.specs.Events.{is_known}
-use Rattle.rb_read_defs.specs.Stream.{Known, Content, Begins, Ends as EndsEpoch, Maps, Changes, Statuses, open_epoch, is_open, maps_of, map_in_force, statuses_of, own_rows, other_rows, is_single, is_rotated, is_in_order, rows_in, kind_of, content_in, has_statuses, seen_from, cut_from, changes_read, tables_named, tables_read, first_epoch_of, body_read, steps_of, settled_at}
+use Rattle.rb_read_defs.specs.declared.answers.Content.{Content}
+use Rattle.rb_read_defs.specs.declared.answers.Content.TheVariants.{Begins, Ends as EndsEpoch, Maps, Changes, Statuses}
+use Rattle.rb_read_defs.specs.Stream.{Known, open_epoch, is_open, maps_of, map_in_force, statuses_of, own_rows, other_rows, is_single, is_rotated, is_in_order, rows_in, kind_of, content_in, has_statuses, seen_from, cut_from, changes_read, tables_named, tables_read, first_epoch_of, body_read, steps_of, settled_at}
 use Rattle.rb_read_defs.specs.Readable.{IsReadableTable, IsReadableChange, told_rows, IsReadable, IsReadBack}
 use Rattle.rb_read_defs.specs.declared.answers.StatusRow.{StatusRow}
 use Rattle.rb_read_defs.specs.declared.answers.Step.{Step}

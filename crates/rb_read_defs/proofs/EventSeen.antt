@@ -8,7 +8,8 @@ use Rattle.rb_log_defs.specs.Epoch.{joined_from}
 use Rattle.rb_log_defs.proofs.Sizes.{header_length, event_length}
 use Rattle.rb_read_defs.specs.Reading.{Reading, Read, Short, Wrong}
 use Rattle.rb_read_defs.specs.Events.{header, is_known}
-use Rattle.rb_read_defs.specs.Stream.{Cut, Known, Content, cut_by, cut_from, is_rotated, is_in_order, content_in, has_statuses, judge, judge_payload, seen_from}
+use Rattle.rb_read_defs.specs.Stream.{Cut, Known, cut_by, cut_from, is_rotated, is_in_order, content_in, has_statuses, judge, judge_payload, seen_from}
+use Rattle.rb_read_defs.specs.declared.answers.Content.{Content}
 use Rattle.rb_read_defs.specs.declared.answers.Header.{Header}
 use Rattle.rb_read_defs.proofs.Fields.{gives_at_start}
 use Rattle.rb_read_defs.proofs.EventsRead.{header_gives}

@@ -10,8 +10,7 @@ use Rattle.std.proofs.lemmas.List.Elements.{recursion_from_All}
 use Rattle.std.proofs.lemmas.List.Sums.{sum_by-cons}
 use Rattle.byteorder.specs.Endian.{little_from}
 use Rattle.byteorder.specs.Numbers.{little_number-reads_back}
-use Rattle.rb_base.specs.Length.{length_bytes}
-use Rattle.rb_read_defs.specs.Length.{length_read}
+use Rattle.rb_base.specs.Length.{length_bytes, length_read}
 use Rattle.rb_base.specs.declared.faults.Field.TheVariants as fields
 use Rattle.rb_base.specs.declared.schema.Column.{Column}
 use Rattle.rb_base.specs.declared.schema.Column.TheVariants.{Num, Long, Text}

@@ -10,8 +10,7 @@ use Rattle.std.proofs.lemmas.Bool.{le-leb, lt-ltb, le-ltb, cases_lt}
 use Rattle.std.proofs.lemmas.List.{append-nil, drop_at, take_at}
 use Rattle.byteorder.specs.Endian.{little_bytes, little_number}
 use Rattle.byteorder.specs.Numbers.{little_number-reads_back, length-bytes_low_first}
-use Rattle.rb_base.specs.Length.{length_bytes}
-use Rattle.rb_read_defs.specs.Length.{length_read, width_behind}
+use Rattle.rb_base.specs.Length.{length_bytes, length_read, width_behind}
 use Rattle.rb_base.specs.declared.faults.Field.{Field}
 use Rattle.rb_read_defs.specs.Reading.{Reader, Read, Short, behind, ◌>>=◌, give, some_bytes, number, length_number, the_rest, the_end, that}
 use Rattle.rb_read_defs.specs.Rows.{up_to_the_end, many}

@@ -1,4 +1,3 @@
-pub mod Length
 pub mod Reading
 pub mod Events
 pub mod Rows

@@ -1,7 +1,7 @@
 -- What the bytes of an event give, field by field, in the order in which the fields stand.
 use Rattle.std.specs.Prelude.{ℕ, ◌+◌, ◌==◌, nat_le, Bool, if◌then◌else◌, List, length, take, drop, Result, Ok, Err}
 use Rattle.byteorder.specs.Endian.{little_number}
-use Rattle.rb_read_defs.specs.Length.{length_read}
+use Rattle.rb_base.specs.Length.{length_read}
 use Rattle.rb_base.specs.declared.faults.Field.{Field}
 use Rattle.rb_base.specs.declared.faults.Field.TheVariants as fields
 use Rattle.rb_base.specs.declared.faults.CodecFault.{CodecFault}

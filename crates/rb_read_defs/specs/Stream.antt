@@ -14,6 +14,8 @@ use Rattle.rb_base.specs.declared.body.EpochBody.{EpochBody}
 use Rattle.rb_read_defs.specs.Reading.{Reading, Reader, Read, Short, Wrong, ◌>>=◌, give, number, that}
 use Rattle.rb_read_defs.specs.Events.{header, format, query, xid, rotate, table_map, is_known, is_status}
 use Rattle.rb_read_defs.specs.Rows.{changes, statuses}
+use Rattle.rb_read_defs.specs.declared.answers.Content.{Content}
+use Rattle.rb_read_defs.specs.declared.answers.Content.TheVariants.{Formats, Begins, Ends, Rotates, Maps, Changes, Statuses, Skipped}
 use Rattle.rb_read_defs.specs.declared.answers.Header.{Header}
 use Rattle.rb_read_defs.specs.declared.answers.QueryText.{QueryText}
 use Rattle.rb_read_defs.specs.declared.answers.QueryText.TheVariants.{Begin, Commit}
@@ -48,17 +50,6 @@ cut_from (suc most) at bytes =
 -- all events of some bytes
 abbrev pub cuts : (at : ℕ) → List ℕ → List Cut
 cuts at bytes = cut_from (length bytes) at bytes
-
--- what an event says
-pub data Content : Type 0 where
-  Formats : Content
-  Begins : Content
-  Ends : Content
-  Rotates : (to : RotateTo) → Content
-  Maps : (table : Mapped) → Content
-  Changes : (changes : List Change) → Content
-  Statuses : (rows : List StatusRow) → Content
-  Skipped : Content
 
 -- an event that was read: where it ends, its server, and what it says
 pub record Known : Type 0 where

@@ -1,4 +1,4 @@
-use rb_base::{Bytes, Epoch, EpochBody, Items};
+use rb_base::{Bytes, Changes, Epoch, EpochBody, Items, Mapped};
 
 /// The header of an event, which its first 19 bytes hold. The timestamp is not among the fields: it is always 0 where it is
 /// written, and not looked at where it is read.
@@ -40,6 +40,27 @@ pub struct StatusRow {
 
 pub type StatusRows = Items<StatusRow>;
 
+/// What an event says, by its type.
+#[derive(Debug, Drop)]
+pub enum Content {
+    /// FORMAT_DESCRIPTION: the log can be read.
+    Formats,
+    /// QUERY `BEGIN`: an epoch begins.
+    Begins,
+    /// XID, or QUERY `COMMIT`: it ends.
+    Ends,
+    /// ROTATE: the log goes on in another file.
+    Rotates(RotateTo),
+    /// TABLE_MAP: what an id means from here on.
+    Maps(Mapped),
+    /// WRITE_ROWS, UPDATE_ROWS or DELETE_ROWS of a data table.
+    Changes(Changes),
+    /// WRITE_ROWS of the apply-status table.
+    Statuses(StatusRows),
+    /// An event of a type that is not known, which its flags let a reader skip.
+    Skipped,
+}
+
 /// What a decoder answers next.
 #[derive(Debug, Drop)]
 pub enum Step {
@@ -49,6 +70,6 @@ pub enum Step {
     Rotate(u64, Bytes),
     /// A format description event.
     Format,
-    /// The next event is not whole: more bytes are needed.
+    /// More bytes are needed: the next event, or the magic number of the file, is not whole.
     NeedMore,
 }

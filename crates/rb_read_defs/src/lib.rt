@@ -8,7 +8,7 @@ mod answers;
 pub mod law;
 mod worked;
 
-pub use answers::{Header, QueryText, RotateTo, StatusRow, StatusRows, Step};
+pub use answers::{Content, Header, QueryText, RotateTo, StatusRow, StatusRows, Step};
 pub use worked::{
     a_commit, a_rotation, a_skipped_event, an_epoch_cut_short, changed_bytes, changed_heads,
     changed_status, events_out_of_place, judged_by_the_header, rows_of_other_forms,

@@ -7,7 +7,7 @@ use crate::name::file_name;
 use crate::row::index_row;
 use rb_base::{Bytes, EpochBody, IndexRows, NoMemory, SiteId};
 use rb_codec::{write_format, write_rotate};
-use rb_etx::encode_epoch;
+use rb_etx::write_epoch;
 use std::alloc::Global;
 
 /// The first bytes of every binlog file.
@@ -121,8 +121,7 @@ fn with_epoch(
         mut rows,
     } = log;
     let start = last.len() as u32;
-    let bytes = encode_epoch(alloc, body, start)?;
-    last.extend_from_slice(&bytes)?;
+    write_epoch(alloc, &mut last, body, 0)?;
     let end = last.len() as u64;
     rows.push(index_row(site, closed.len() as u32 + 1, u64::from(start), end, body))?;
     rotated_at(alloc, site, limit, Layout { closed, last, rows })

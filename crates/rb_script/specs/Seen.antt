@@ -1,11 +1,15 @@
 -- What the parser's own words, operations and forms stand for in the definitions.
 use Rattle.std.specs.Prelude.{ℕ, List, [], ◌∷◌, map, Option, Some, None}
 use Rattle.rb_base.specs.declared.site.SiteId.{SiteId}
+use Rattle.rb_base.specs.declared.schema.Column.{Column}
+use Rattle.rb_base.specs.declared.schema.Column.TheVariants as columns
 use Rattle.rb_text_defs.specs.Words as words
 use Rattle.rb_text_defs.specs.Words.{◌>>=◌}
 use Rattle.rb_text_defs.specs.Form as forms
 use Rattle.rb_script.specs.declared.word.Word.{Word}
 use Rattle.rb_script.specs.declared.word.Word.TheVariants.{Plain, Quoted}
+use Rattle.rb_script.specs.declared.column.ColumnType.{ColumnType}
+use Rattle.rb_script.specs.declared.column.ColumnType.TheVariants as types
 use Rattle.rb_script.specs.declared.operation.Operation.{Operation}
 use Rattle.rb_script.specs.declared.form.Form.{Form}
 use Rattle.rb_script.specs.declared.form.Form.TheVariants.{Site, Table, Tx, Event}
@@ -21,10 +25,15 @@ word_of (Quoted text) = words.Quoted text.now
 abbrev pub operation_seen : Operation → forms.Operation
 operation_seen operation = record { op = operation.op; table = operation.table.now; key = operation.key; values = operation.values }
 
+-- the type of a column
+abbrev pub column_seen : ColumnType → Column
+column_seen types.Num = columns.Num
+column_seen (types.Text most) = columns.Text most
+
 -- a form
 abbrev pub form_seen : Form → forms.Form
 form_seen (Site site shape) = forms.SiteLine site shape.groups shape.replicas shape.limit
-form_seen (Table name columns) = forms.TableLine name.now columns
+form_seen (Table name types) = forms.TableLine name.now (map column_seen types.items)
 form_seen (Tx site operations) = forms.TxLine site (map operation_seen operations.items)
 form_seen (Event event) = forms.EventLine event
 

@@ -1,10 +1,10 @@
 -- What the lines so far tell, and what keeps to the limits.
-use Rattle.std.specs.Prelude.{◌≡◌, ◌+◌, ◌<◌, ◌≤◌, Bool, List, [], ◌∷◌, length, filter_map, sum_by, Option}
+use Rattle.std.specs.Prelude.{◌≡◌, ◌+◌, ◌<◌, ◌≤◌, Bool, List, [], ◌∷◌, length, filter_map, sum_by, Option, IfSome}
 use Rattle.std.specs.List.{find, list_any}
 use Rattle.std.specs.Option.{option_map}
 use Rattle.rb_text_defs.specs.declared.script.Limit.{Limit}
 use Rattle.rb_text_defs.specs.Form.{Form, Reading}
-use Rattle.rb_text_defs.specs.Script.{first_of, shape_in, tables_in, is_event, changes_in_form, closes_in_form, restarts_in_form, events_of, form_in, most_lines, most_tables, most_changes}
+use Rattle.rb_text_defs.specs.Script.{first_of, shape_in, table_in, tables_in, is_event, changes_in_form, closes_in_form, restarts_in_form, events_of, form_in, most_lines, most_tables, most_row_bytes, most_changes, row_bytes}
 use Rattle.rb_script.specs.declared.before.Before.{Before}
 
 -- the forms that lines say
@@ -39,6 +39,7 @@ pub record Tells (readings : List Reading) (before : Before) : Type 0 where
 pub record HasRoom (before : Before) (form : Form) : Type 0 where
   pub lines : before.lines < most_lines
   pub tables : length before.tables + length (tables_in (form ∷ [])) ≤ most_tables
+  pub row : IfSome (table_in form) (λ table. row_bytes table.columns ≤ most_row_bytes)
   pub changes : before.changes + changes_in_form form ≤ most_changes
 
 -- the first limit that is passed, of limits with whether each of them is

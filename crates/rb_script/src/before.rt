@@ -2,15 +2,16 @@ ghost use Rattle.std.specs.Prelude.{◌≡◌, ◌+◌, ◌*◌, ◌<◌, ◌≤
 ghost use Rattle.std.specs.Option.{option_map_or};
 ghost use Rattle.rb_base.specs.declared.script.Event.TheVariants as events;
 ghost use Rattle.rb_text_defs.specs.Form.{EventLine, Form as LineForm, Reading, Says, Skipped};
-ghost use Rattle.rb_text_defs.specs.Script.{bad_line, client_op, closes_in_form, is_misplaced, limit_passed, most_changes, most_lines, most_tables, node_in, refusal_of_line, restarts_in_form, script_in};
-ghost use Rattle.rb_script.specs.Seen.{form_seen, operation_seen};
+ghost use Rattle.rb_text_defs.specs.Script.{bad_line, client_op, closes_in_form, is_misplaced, limit_passed, most_changes, most_lines, most_row_bytes, most_tables, node_in, refusal_of_line, restarts_in_form, row_bytes, script_in};
+ghost use Rattle.rb_script.specs.Seen.{column_seen, form_seen, operation_seen};
 ghost use Rattle.rb_script.specs.Tells.{HasRoom, IsSmall, Tells, TellsForms, forms_of};
 
+use crate::column::{ColumnType, columns_of};
 use crate::form::Form;
 use crate::limit::{DEFAULT_LIMIT, MOST_LINES, site_limit, table_limit, tx_limit, work_limit};
 use crate::operation::Operation;
 use crate::table::{all_suit, client_ops, table_named};
-use rb_base::{Bytes, Columns, Event, Mode, NoMemory, Schema, Schemas, Setup, SiteId, SiteSetup};
+use rb_base::{Bytes, Event, Mode, NoMemory, Schema, Schemas, Setup, SiteId, SiteSetup};
 use rb_text_defs::{Limit, LinedEvent, LinedEvents, Script, ScriptKind};
 use std::alloc::Global;
 
@@ -121,7 +122,7 @@ impl Before {
         }
         match form {
             Form::Site(_, shape) => site_limit(*shape),
-            Form::Table(_, columns) => table_limit(self.tables.as_slice(), columns.as_slice()),
+            Form::Table(_, types) => table_limit(self.tables.as_slice(), types),
             Form::Tx(_, operations) => {
                 tx_limit(self.changes, self.closes, self.restarts, operations.len())
             }
@@ -156,8 +157,8 @@ impl Before {
                 self.take_site(shape);
                 Ok(())
             }
-            Form::Table(name, columns) => {
-                self.take_table(alloc, name, columns)?;
+            Form::Table(name, types) => {
+                self.take_table(alloc, name, &types)?;
                 Ok(())
             }
             Form::Tx(site, operations) => {
@@ -203,12 +204,18 @@ impl Before {
         self.site = Some(shape);
     }
 
-    fn take_table(&mut self, alloc: Global, name: &[u8], columns: Columns) -> Result<(), NoMemory>
-        requires { self.old.lines < most_lines }
+    fn take_table(
+        &mut self,
+        alloc: Global,
+        name: &[u8],
+        types: &[ColumnType],
+    ) -> Result<(), NoMemory>
+        requires lines { self.old.lines < most_lines }
+        requires row { row_bytes (map column_seen types.now) ≤ most_row_bytes }
         ensures { OnOk result (self.new ≡ record {
           lines = self.old.lines + 1;
           site = self.old.site;
-          tables = self.old.tables ++ record { name = name.now; columns = columns } ∷ [];
+          tables = self.old.tables ++ record { name = name.now; columns = map column_seen types.now } ∷ [];
           has_event = self.old.has_event;
           changes = self.old.changes;
           closes = self.old.closes;
@@ -218,6 +225,7 @@ impl Before {
     {
         self.lines += 1;
         let name = Bytes::from_vec(Vec::from_slice(alloc, name)?);
+        let columns = columns_of(alloc, types)?;
         self.tables.push(Schema { name, columns })?;
         Ok(())
     }

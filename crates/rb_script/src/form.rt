@@ -2,12 +2,13 @@ ghost use Rattle.std.specs.Prelude.{◌≡◌, [], ◌∷◌, codes, map, IfOk, 
 ghost use Rattle.std.specs.List.{slice_split};
 ghost use Rattle.rb_base.specs.declared.script.Event.TheVariants as events;
 ghost use Rattle.rb_text_defs.specs.Words.{all_of};
-ghost use Rattle.rb_text_defs.specs.Form.{deliver_line, form_from, form_of, is_word, node_event, operation_of, site_event, site_line, site_of, small_number_of, table_line, tx_line, type_of};
-ghost use Rattle.rb_script.specs.Seen.{form_seen, only_site, operation_seen, site_and_node, word_of};
+ghost use Rattle.rb_text_defs.specs.Form.{deliver_line, form_from, form_of, is_word, node_event, operation_of, site_event, site_line, site_of, table_line, tx_line, type_of};
+ghost use Rattle.rb_script.specs.Seen.{column_seen, form_seen, only_site, operation_seen, site_and_node, word_of};
 
+use crate::column::{ColumnType, type_of};
 use crate::operation::{Operation, read_operation};
 use crate::word::Word;
-use rb_base::{Column, Columns, Event, NoMemory, SiteId, SiteSetup};
+use rb_base::{Event, NoMemory, SiteId, SiteSetup};
 use std::alloc::{AllocError, Global};
 
 /// What a line says.
@@ -15,8 +16,8 @@ use std::alloc::{AllocError, Global};
 pub(crate) enum Form<'a> {
     /// The shape of a site.
     Site(SiteId, SiteSetup),
-    /// A table, with its columns behind the key.
-    Table(&'a [u8], Columns),
+    /// A table, with the types of its columns behind the key.
+    Table(&'a [u8], Vec<ColumnType>),
     /// A client's transaction.
     Tx(SiteId, Vec<Operation<'a>>),
     /// Another event.
@@ -100,8 +101,8 @@ fn site_shape<'a>(
 {
     let site = site_of(site)?;
     let shape = SiteSetup {
-        groups: small_number(count)?,
-        replicas: small_number(nodes)?,
+        groups: count.small_number()?,
+        replicas: nodes.small_number()?,
         limit: length.number()?,
     };
     if !groups.is(b"groups") || !replicas.is(b"replicas") || !limit.is(b"limit") {
@@ -115,13 +116,6 @@ fn site_of(word: Word<'_>) -> Option<SiteId>
     ensures { result ≡ site_of (word_of word.entry) }
 {
     if word.is(b"A") { Some(SiteId::A) } else { None }
-}
-
-/// The number of 32 bits that a word says.
-fn small_number(word: Word<'_>) -> Option<u32>
-    ensures { result ≡ small_number_of (word_of word.entry) }
-{
-    u32::try_from(word.number()?).ok()
 }
 
 /// A table: `NAME TYPE ..`.
@@ -147,35 +141,25 @@ fn table<'a>(
     let Some(name) = name.name() else {
         return Ok(None);
     };
-    let Some(columns) = columns_of(alloc, types)? else {
+    let Some(types) = types_of(alloc, types)? else {
         return Ok(None);
     };
-    Ok(Some(Form::Table(name, columns)))
+    Ok(Some(Form::Table(name, types)))
 }
 
-/// Columns of these types, where each is one.
-fn columns_of(alloc: Global, types: &[Word<'_>]) -> Result<Option<Columns>, NoMemory>
-    ensures { IfOk result (λ columns. columns ≡ all_of (map type_of (map word_of types.now))) }
+/// The types that these words say, where each says one.
+fn types_of(alloc: Global, words: &[Word<'_>]) -> Result<Option<Vec<ColumnType>>, NoMemory>
+    ensures { IfOk result (λ types. option_map (λ types. map column_seen types.items) types
+        ≡ all_of (map type_of (map word_of words.now))) }
 {
-    let mut columns = Vec::new(alloc);
-    for word in types {
-        let Some(column) = type_of(*word) else {
+    let mut types = Vec::new(alloc);
+    for word in words {
+        let Some(column_type) = type_of(*word) else {
             return Ok(None);
         };
-        columns.push(column)?;
+        types.push(column_type)?;
     }
-    Ok(Some(Columns::from_vec(columns)))
-}
-
-/// The type of a column.
-fn type_of(word: Word<'_>) -> Option<Column>
-    ensures { result ≡ type_of (word_of word.entry) }
-{
-    if word.is(b"num") {
-        Some(Column::Num)
-    } else {
-        None
-    }
+    Ok(Some(types))
 }
 
 /// A client's transaction: `S OP ; OP ..`.
@@ -307,7 +291,7 @@ fn site_and_node(words: &[Word<'_>]) -> Option<(SiteId, u32)>
         return None;
     };
     let site = site_of(*site)?;
-    let node = small_number(*node)?;
+    let node = node.small_number()?;
     Some((site, node))
 }
 

@@ -8,6 +8,7 @@
 
 mod before;
 mod byte;
+mod column;
 mod cut;
 mod fault;
 mod form;

@@ -1,10 +1,12 @@
-ghost use Rattle.std.specs.Prelude.{◌≡◌, ◌+◌, ◌*◌, ◌^◌, ◌≤◌, ◌==◌, [], ◌∷◌, nat_le, nat_lt, ◌&&◌, not, length, IfNone};
+ghost use Rattle.std.specs.Prelude.{◌≡◌, ◌+◌, ◌*◌, ◌^◌, ◌≤◌, ◌==◌, [], ◌∷◌, nat_le, nat_lt, ◌&&◌, not, length, map, IfNone};
 ghost use Rattle.rb_text_defs.specs.Script.{default_limit, most_changes, most_columns, most_groups, most_lines, most_replicas, most_row_bytes, most_tables, most_tx_changes, most_work, column_bytes, row_bytes};
 ghost use Rattle.rb_base.specs.declared.schema.Column.TheVariants as columns;
 ghost use Rattle.rb_text_defs.specs.declared.script.Limit.TheVariants as limits;
+ghost use Rattle.rb_script.specs.Seen.{column_seen};
 ghost use Rattle.rb_script.specs.Tells.{first_passed};
 
-use rb_base::{Column, Schema, SiteSetup};
+use crate::column::ColumnType;
+use rb_base::{Schema, SiteSetup};
 use rb_text_defs::Limit;
 
 /// How many bytes a script has at most.
@@ -59,52 +61,52 @@ fn is_within(number: u32, most: u32) -> bool
     1 <= number && number <= most
 }
 
-/// The first limit that a table of these columns passes, behind so many others.
-pub(crate) fn table_limit(tables: &[Schema], columns: &[Column]) -> Option<Limit>
+/// The first limit that a table of columns of these types passes, behind these others.
+pub(crate) fn table_limit(tables: &[Schema], types: &[ColumnType]) -> Option<Limit>
     ensures first { result ≡ first_passed ((nat_lt most_tables (length tables.now + 1), limits.Tables)
-        ∷ (nat_lt most_columns (length columns.now), limits.Columns)
-        ∷ (nat_lt most_row_bytes (row_bytes columns.now), limits.RowBytes) ∷ []) }
+        ∷ (nat_lt most_columns (length (map column_seen types.now)), limits.Columns)
+        ∷ (nat_lt most_row_bytes (row_bytes (map column_seen types.now)), limits.RowBytes) ∷ []) }
     ensures few { IfNone result (length tables.now + 1 ≤ most_tables) }
+    ensures row { IfNone result (row_bytes (map column_seen types.now) ≤ most_row_bytes) }
 {
     if tables.len() + 1 > MOST_TABLES {
         return Some(Limit::Tables);
     }
-    if columns.len() > MOST_COLUMNS {
+    if types.len() > MOST_COLUMNS {
         return Some(Limit::Columns);
     }
-    if row_bytes(columns) > MOST_ROW_BYTES {
+    if row_bytes(types) > MOST_ROW_BYTES {
         return Some(Limit::RowBytes);
     }
     None
 }
 
-/// How many bytes a row of a key and these columns has at most.
-fn row_bytes(columns: &[Column]) -> u64
-    requires { length columns.now ≤ 15 }
-    ensures { result ≡ row_bytes columns.now }
+/// How many bytes a row of a key and columns of these types has at most.
+fn row_bytes(types: &[ColumnType]) -> u64
+    requires { length types.now ≤ 15 }
+    ensures { result ≡ row_bytes (map column_seen types.now) }
 {
     let mut bytes = 8;
-    for column in columns {
-        bytes += column_bytes(*column);
+    for column_type in types {
+        bytes += column_bytes(*column_type);
     }
     bytes
 }
 
 /// How many bytes a column takes in a row at most: a text has a length before it.
-fn column_bytes(column: Column) -> u64
-    ensures bytes { result ≡ column_bytes column }
-    ensures few { result ≤ 65537 }
+fn column_bytes(column_type: ColumnType) -> u64
+    ensures bytes { result ≡ column_bytes (column_seen column_type) }
+    ensures few { result ≤ 2 ^ 32 + 1 }
 {
-    match column {
-        Column::Num => 8,
-        Column::Long => 4,
-        Column::Text(most) => text_bytes(most),
+    match column_type {
+        ColumnType::Num => 8,
+        ColumnType::Text(most) => text_bytes(most),
     }
 }
 
-fn text_bytes(most: u16) -> u64
+fn text_bytes(most: u32) -> u64
     ensures bytes { result ≡ column_bytes (columns.Text most) }
-    ensures few { result ≤ 65537 }
+    ensures few { result ≤ 2 ^ 32 + 1 }
 {
     if most <= 255 {
         u64::from(most) + 1

@@ -1,11 +1,11 @@
 use super::*;
-use rb_base::{Event, Op, SiteId, SiteSetup, Value};
+use rb_base::{Column, Event, Op, SiteId, SiteSetup, Value};
 use std::test::Fail;
 
 const NAME_OF_32: &str = "abcdefghijklmnopqrstuvwxyz_12345";
 
 /// Short scripts that are refused, each with its first bad line and what is wrong there.
-const REFUSED: [(&[u8], u32, ScriptKind); 44] = [
+const REFUSED: [(&[u8], u32, ScriptKind); 67] = [
     (b"frob", 1, ScriptKind::Syntax),
     (b"tx A ins t 1 1", 1, ScriptKind::Setup),
     (b"deliver A 18446744073709551616", 1, ScriptKind::Syntax),
@@ -69,6 +69,61 @@ const REFUSED: [(&[u8], u32, ScriptKind); 44] = [
         ScriptKind::Limit(Limit::Columns),
     ),
     (b"table t text", 1, ScriptKind::Syntax),
+    (b"table t text:", 1, ScriptKind::Syntax),
+    (b"table t text:0", 1, ScriptKind::Syntax),
+    (b"table t text:00000000000000000000", 1, ScriptKind::Syntax),
+    (b"table t text:000000000000000000009", 1, ScriptKind::Syntax),
+    (b"table t text:4294967296", 1, ScriptKind::Syntax),
+    (b"table t text:18446744073709551617", 1, ScriptKind::Syntax),
+    (b"table t text:+9", 1, ScriptKind::Syntax),
+    (b"table t text: 9", 1, ScriptKind::Syntax),
+    (b"table t Text:9", 1, ScriptKind::Syntax),
+    (b"table t \"text:9\"", 1, ScriptKind::Syntax),
+    (b"table t text:991", 1, ScriptKind::Limit(Limit::RowBytes)),
+    (b"table t text:70000", 1, ScriptKind::Limit(Limit::RowBytes)),
+    (
+        b"table t text:65536 num",
+        1,
+        ScriptKind::Limit(Limit::RowBytes),
+    ),
+    (
+        b"table t text:4294967295 text:4294967295",
+        1,
+        ScriptKind::Limit(Limit::RowBytes),
+    ),
+    (
+        b"table t num text:983",
+        1,
+        ScriptKind::Limit(Limit::RowBytes),
+    ),
+    (
+        b"table t text:255 text:255 text:255 text:224",
+        1,
+        ScriptKind::Limit(Limit::RowBytes),
+    ),
+    (
+        b"table t num num num num num num num num num num num num num num num text:70000",
+        1,
+        ScriptKind::Limit(Limit::Columns),
+    ),
+    (b"table t\ntable t text:991", 2, ScriptKind::Setup),
+    (
+        b"table t text:2\ntx A ins t 1 \"abc\"",
+        2,
+        ScriptKind::Setup,
+    ),
+    (b"table t text:2\ntx A ins t 1 12", 2, ScriptKind::Setup),
+    (b"table t text:2\ntx A upd t 1", 2, ScriptKind::Setup),
+    (
+        b"table t text:2 num\ntx A put t 1 1 \"ab\"",
+        2,
+        ScriptKind::Setup,
+    ),
+    (
+        b"table t text:2\ntx A del t 1 \"ab\"",
+        2,
+        ScriptKind::Syntax,
+    ),
     (b"table t num\ntx A del t 1 2", 2, ScriptKind::Syntax),
     (b"table t num\ntx A ins t 1", 2, ScriptKind::Setup),
     (b"table t num\ntx A ins t 1 2 3", 2, ScriptKind::Setup),
@@ -148,6 +203,53 @@ fn reads_operations(rt: HostRuntime) -> Result<(), Fail> {
     assert!(rt; put.op == Op::Put && put.table == 2 && put.key == 6);
     let row = insert.row.as_ref().ok_or("an insert has a row")?;
     assert!(rt; matches!(row.values.as_slice(), [Value::Num(5), Value::Num(7)]));
+    Ok(())
+}
+
+#[test]
+fn reads_columns(rt: HostRuntime) -> Result<(), Fail> {
+    let text = b"table t text:255 num text:0000256\ntable u text:990\ntable v num text:982\n";
+    let script = parse(rt.alloc(), text).or(Err("it is a script"))?;
+    let [t, u, v] = script.setup.tables.as_slice() else {
+        return Err("it has three tables".into());
+    };
+    assert_eq!(rt;
+        t.columns.as_slice(),
+        [Column::Text(255), Column::Num, Column::Text(256)].as_slice()
+    );
+    assert_eq!(rt; u.columns.as_slice(), [Column::Text(990)].as_slice());
+    assert_eq!(rt;
+        v.columns.as_slice(),
+        [Column::Num, Column::Text(982)].as_slice()
+    );
+    Ok(())
+}
+
+#[test]
+fn reads_texts(rt: HostRuntime) -> Result<(), Fail> {
+    let text = b"table t text:4 num text:1\ntx A ins t 5 \" ; #\" 7 \"\"";
+    let script = parse(rt.alloc(), text).or(Err("it is a script"))?;
+    let [event] = script.events.as_slice() else {
+        return Err("it has an event".into());
+    };
+    let Event::Tx(SiteId::A, operations) = &event.event else {
+        return Err("it is a transaction".into());
+    };
+    let [insert] = operations.as_slice() else {
+        return Err("it has one operation".into());
+    };
+    let row = insert.row.as_ref().ok_or("an insert has a row")?;
+    let [
+        Value::Num(5),
+        Value::Text(first),
+        Value::Num(7),
+        Value::Text(last),
+    ] = row.values.as_slice()
+    else {
+        return Err("the row has two numbers and two texts".into());
+    };
+    assert_eq!(rt; first.as_slice(), b" ; #".as_slice());
+    assert!(rt; last.as_slice().is_empty());
     Ok(())
 }
 

@@ -1,7 +1,7 @@
 ghost use Rattle.std.specs.Prelude.{◌≡◌, ◌<◌, ◌==◌, ◌++◌, ◌∷◌, [], List, ℕ, filter, map, not, ◌||◌, length, IfOk, IfSome, IfNone, None, option_map, OnOk};
 ghost use Rattle.std.specs.List.{slice_split};
 ghost use Rattle.rb_text_defs.specs.Words.{Plain, Quoted, begins_with, is_blank, is_empty, lets_a_text_follow, plain_words, words_of, name_of, number_of};
-ghost use Rattle.rb_text_defs.specs.Form.{is_word};
+ghost use Rattle.rb_text_defs.specs.Form.{is_word, small_number_of};
 ghost use Rattle.rb_script.specs.Seen.{word_of};
 
 use crate::byte::{are_text_bytes, ends_with_blank, is_blank, is_name, number};
@@ -38,6 +38,13 @@ impl<'a> Word<'a> {
             Word::Plain(bytes) => number(bytes),
             Word::Quoted(_) => None,
         }
+    }
+
+    /// The number of 32 bits that it says.
+    pub(crate) fn small_number(self) -> Option<u32>
+        ensures { result ≡ small_number_of (word_of self.entry) }
+    {
+        u32::try_from(self.number()?).ok()
     }
 
     /// The name that it says.

@@ -28,3 +28,4 @@ pub mod MapLaws
 pub mod StepLaws
 pub mod StandLaws
 pub mod TrialLaws
+pub mod WriteLaws

@@ -44,7 +44,7 @@ is_declared schemas replicas same = subst (λ (ss : List Schema). AreDeclared (s
   primary = refl;
   schemas = one_table;
   tables = refl;
-  small = (record { numbers = (refl, (refl, tt)); some = omega arith; few = omega arith; schema = refl; name = omega arith }, tt);
+  small = (record { short = omega arith; some = omega arith; few = omega arith; schema = refl; name = omega arith }, tt);
 })
 
 -- a row fits it

@@ -3,14 +3,13 @@ use Rattle.std.specs.Prelude.{◌≡◌, ℕ, ◌+◌, ◌*◌, ◌≤◌, ◌<�
 use Rattle.std.specs.List.{AllByRecursion, slice_get}
 use Rattle.std.specs.Option.{option_map, option_and_then}
 use Rattle.rb_base.specs.declared.site.SiteId.TheVariants.{A}
-use Rattle.rb_base.specs.declared.schema.Column.TheVariants.{Num}
 use Rattle.rb_base.specs.declared.schema.Schema.{Schema}
 use Rattle.rb_base.specs.declared.schema.Mapped.{Mapped}
 use Rattle.rb_base.specs.declared.body.EpochBody.{EpochBody}
 use Rattle.rb_base.specs.declared.script.ClientOp.{ClientOp}
 use Rattle.rb_journal_defs.specs.Journal.{Journal, changes_of, closed_epochs, previous_closed, row_at}
 use Rattle.rb_journal_defs.specs.Body.{Shape, changes_in, mapped_tables}
-use Rattle.rb_text_defs.specs.Script.{most_changes}
+use Rattle.rb_text_defs.specs.Script.{column_bytes, most_changes, most_row_bytes}
 use Rattle.rb_store.specs.Tables.{rows_in, tables_in}
 use Rattle.rb_evbuf.specs.Buffer.{StandsFor}
 use Rattle.rb_play_defs.specs.Step.{Progress, failed_in, fed_by, last_epoch, written_bodies, acknowledged_epoch}
@@ -28,9 +27,9 @@ use Rattle.rb_site.specs.Outbox.{HoldsSent, count_in, nodes_in}
 use Rattle.rb_site.specs.declared.site.Loss.{Loss}
 use Rattle.rb_site.specs.declared.site.Site.{Site}
 
--- a table of at most 16 columns of numbers, with a name of at most 32 bytes
+-- a table of at most 16 columns, whose rows are short, with a name of at most 32 bytes
 pub record IsSmallTable (table : Mapped) : Type 0 where
-  pub numbers : AllByRecursion (λ column. column ≡ Num) table.columns
+  pub short : sum_by column_bytes table.columns ≤ most_row_bytes
   pub some : 0 < length table.columns
   pub few : length table.columns ≤ 16
   pub schema : length table.schema ≡ 2
@@ -60,7 +59,7 @@ loss_of lost = option_map (λ loss. (loss.group, loss.epoch.0)) lost
 
 -- how many bytes an epoch takes for each of its changes at most
 abbrev pub most_of_change : ℕ
-most_of_change = 606
+most_of_change = 2382
 
 -- how many changes bodies have
 abbrev pub changes_in_bodies : List EpochBody → ℕ

@@ -220,7 +220,7 @@ so_far_more readings (Says (TableLine name columns)) so fine said =
     ap (list_any is_event) (forms_more readings (Says form)) ∙ list_any-append is_event forms (form ∷ []) ∙ ap (λ any. any || false) quiet in
     to_so_far readings (Says form) (forms ++ form ∷ []) [] (forms_more readings (Says form)) (no_events (tables_in (forms ++ form ∷ [])) (readings ++ Says form ∷ []) 0 quiet_too)
     (keeps_table forms (events_of (tables_in forms) readings) (length readings) name columns so (no_events (tables_in forms) readings 0 quiet)
-    (record { name = said.0; few = ltb-false most_columns (length columns) within.2; numbers = said.1 }) (ltb-false most_tables (length (tables_in forms) + 1) within.1) (ltb-false most_lines (length readings + 1) within.0))
+    (record { name = said.0; few = ltb-false most_columns (length columns) within.2; columns = said.1; bytes = ltb-false most_row_bytes (row_bytes columns) within.3 }) (ltb-false most_tables (length (tables_in forms) + 1) within.1) (ltb-false most_lines (length readings + 1) within.0))
 so_far_more readings (Says (TxLine site operations)) so fine said =
     let form = TxLine site operations in
     let forms = forms_of readings in

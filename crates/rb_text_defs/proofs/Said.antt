@@ -2,24 +2,24 @@
 use Rattle.std.proofs.Common.{◌≡◌, ℕ, ◌≤◌, Bool, true, false, List, [], ◌∷◌, length, map, Option, Some, None, refl}
 use Rattle.std.specs.Prelude.{nat_le, ◌&&◌, if◌then◌else◌, codes, ⊤, IfSome}
 use Rattle.std.specs.List.{AllByRecursion, list_all, slice_split}
-use Rattle.std.specs.Option.{option_map, option_map_or}
+use Rattle.std.specs.Option.{option_and_then, option_map, option_map_or}
 use Rattle.std.proofs.lemmas.Bool.{leb-true, leb-false, and_parts}
 use Rattle.rb_base.specs.declared.site.SiteId.{SiteId}
 use Rattle.rb_base.specs.declared.site.SiteId.TheVariants.{A}
 use Rattle.rb_base.specs.declared.schema.Column.{Column}
-use Rattle.rb_base.specs.declared.schema.Column.TheVariants.{Num}
+use Rattle.rb_base.specs.declared.schema.Column.TheVariants.{Num, Text}
 use Rattle.rb_base.specs.declared.schema.Schema.{Schema}
 use Rattle.rb_base.specs.declared.script.Event.{Event}
 use Rattle.rb_base.specs.declared.script.Event.TheVariants as events
 use Rattle.rb_text_defs.specs.Words.{Word, Plain, Quoted, ◌>>=◌, all_of, begins_with, is_letter, is_name, is_name_byte, name_of, number_of, words_of, is_line_byte, is_skipped}
-use Rattle.rb_text_defs.specs.Form.{Form, SiteLine, TableLine, TxLine, EventLine, Reading, Wrong, Skipped, Says, deliver_line, form_from, form_of, is_word, operation_of, reading_of, says, node_event, site_event, site_line, site_of, small_number_of, table_line, tx_line, type_of}
+use Rattle.rb_text_defs.specs.Form.{Form, SiteLine, TableLine, TxLine, EventLine, Reading, Wrong, Skipped, Says, deliver_line, form_from, form_of, is_word, maximum_of, operation_of, reading_of, says, node_event, site_event, site_line, site_of, small_number_of, table_line, text_type, tx_line, type_of}
 use Rattle.rb_text_defs.specs.Script.{node_in}
-use Rattle.rb_text_defs.specs.Legal.{IsLegalEvent, changes_in_event}
+use Rattle.rb_text_defs.specs.Legal.{IsLegalColumn, IsLegalEvent, changes_in_event}
 
--- what a form keeps to: a name's length, numbers for columns, site A, and no changes outside transactions
+-- what a form keeps to: a name's length, columns of a type, site A, and no changes outside transactions
 abbrev pub IsSaid : Form → Type 0
 IsSaid (SiteLine site groups replicas limit) = ⊤
-IsSaid (TableLine name columns) = (length name ≤ 32) × AllByRecursion (λ column. column ≡ Num) columns
+IsSaid (TableLine name columns) = (length name ≤ 32) × AllByRecursion IsLegalColumn columns
 IsSaid (TxLine site operations) = site ≡ A
 IsSaid (EventLine event) = ((tables : List Schema) (nodes : ℕ) → option_map_or (nat_le nodes) (node_in event) false ≡ false → IsLegalEvent tables nodes event) × (changes_in_event event ≡ 0)
 
@@ -51,18 +51,28 @@ name_said (Plain bytes) = go (nat_le (length bytes) 32 && begins_with is_letter 
     go true few = few refl
     go false few = tt
 
-columns_said : (words : List Word) → IfSome (all_of (map type_of words)) (AllByRecursion (λ column. column ≡ Num))
-columns_said [] = tt
-columns_said (word ∷ words) = pick (is_word (codes "num") word) (map type_of words) (columns_said words)
+type_said : (word : Word) → IfSome (type_of word) IsLegalColumn
+type_said word = if_chosen IsLegalColumn (is_word (codes "num") word) (Some Num) (option_and_then text_type (maximum_of word)) tt (text_said (maximum_of word))
   where
-    more : (others : Option (List Column)) → IfSome others (AllByRecursion (λ column. column ≡ Num)) → IfSome (option_map (λ others. Num ∷ others) others) (AllByRecursion (λ column. column ≡ Num))
-    more None all = tt
-    more (Some others) all = (refl, all)
+    some : (most : ℕ) (b : Bool) → (b ≡ true → 1 ≤ most) → IfSome (if b then Some (Text most) else None) IsLegalColumn
+    some most true is = is refl
+    some most false is = tt
 
-    pick : (b : Bool) (values : List (Option Column)) → IfSome (all_of values) (AllByRecursion (λ column. column ≡ Num))
-        → IfSome (all_of ((if b then Some Num else None) ∷ values)) (AllByRecursion (λ column. column ≡ Num))
-    pick true values all = more (all_of values) all
-    pick false values all = tt
+    text_said : (maximum : Option ℕ) → IfSome (option_and_then text_type maximum) IsLegalColumn
+    text_said None = tt
+    text_said (Some most) = some most (nat_le 1 most) (leb-true 1 most)
+
+columns_said : (words : List Word) → IfSome (all_of (map type_of words)) (AllByRecursion IsLegalColumn)
+columns_said [] = tt
+columns_said (word ∷ words) = pick (type_of word) (map type_of words) (type_said word) (columns_said words)
+  where
+    more : (column : Column) (others : Option (List Column)) → IsLegalColumn column → IfSome others (AllByRecursion IsLegalColumn) → IfSome (option_map (λ others. column ∷ others) others) (AllByRecursion IsLegalColumn)
+    more column None legal all = tt
+    more column (Some others) legal all = (legal, all)
+
+    pick : (first : Option Column) (values : List (Option Column)) → IfSome first IsLegalColumn → IfSome (all_of values) (AllByRecursion IsLegalColumn) → IfSome (all_of (first ∷ values)) (AllByRecursion IsLegalColumn)
+    pick None values legal all = tt
+    pick (Some column) values legal all = more column (all_of values) legal all
 
 site_line_said : (words : List Word) → IfSome (site_line words) IsSaid
 unfolding site_line
@@ -86,7 +96,7 @@ unfolding table_line
 table_line_said [] = tt
 table_line_said (name ∷ types) =
     if_bound (λ name. length name ≤ 32) IsSaid (name_of name) _ (name_said name) (λ table few.
-    if_bound (AllByRecursion (λ column. column ≡ Num)) IsSaid (all_of (map type_of types)) _ (columns_said types) (λ columns all. (few, all)))
+    if_bound (AllByRecursion IsLegalColumn) IsSaid (all_of (map type_of types)) _ (columns_said types) (λ columns all. (few, all)))
 
 tx_line_said : (words : List Word) → IfSome (tx_line words) IsSaid
 unfolding tx_line

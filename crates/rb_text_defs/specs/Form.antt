@@ -1,5 +1,5 @@
 -- The forms of a line, by its words alone.
-use Rattle.std.specs.Prelude.{ℕ, ◌^◌, nat_lt, ◌&&◌, Bool, true, false, if◌then◌else◌, List, [], ◌∷◌, map, Option, Some, None, codes}
+use Rattle.std.specs.Prelude.{ℕ, ◌^◌, nat_le, nat_lt, ◌&&◌, Bool, true, false, if◌then◌else◌, List, [], ◌∷◌, map, take, drop, Option, Some, None, codes}
 use Rattle.std.specs.Str.{bytes_eq}
 use Rattle.std.specs.List.{list_all, slice_split}
 use Rattle.std.specs.Option.{option_map, option_and_then}
@@ -53,9 +53,18 @@ site_line (site ∷ groups ∷ group_count ∷ replicas ∷ replica_count ∷ li
       then Some (SiteLine id in_groups of_nodes rotation) else None
 site_line words = None
 
--- the type of a column; texts do not run yet
+-- the number of 32 bits behind text:, how many bytes a text has at most
+abbrev pub maximum_of : Word → Option ℕ
+maximum_of (Plain bytes) = if bytes_eq (take 5 bytes) (codes "text:") then small_number_of (Plain (drop 5 bytes)) else None
+maximum_of (Quoted text) = None
+
+-- the type of a text column of so many bytes at most, at least 1
+abbrev pub text_type : (most : ℕ) → Option Column
+text_type most = if nat_le 1 most then Some (columns.Text most) else None
+
+-- the type of a column: num, or text:MAX
 abbrev pub type_of : Word → Option Column
-type_of word = if is_word (codes "num") word then Some columns.Num else None
+type_of word = if is_word (codes "num") word then Some columns.Num else option_and_then text_type (maximum_of word)
 
 -- table NAME TYPE ..
 unfoldable pub table_line : List Word → Option Form

@@ -1,10 +1,10 @@
 -- What a legal script keeps to: the limits, and operations that suit the tables.
-use Rattle.std.specs.Prelude.{◌≡◌, ℕ, ◌-◌, ◌*◌, ◌<◌, ◌≤◌, true, List, [], ◌∷◌, length, sum_by, Option, Some, None}
+use Rattle.std.specs.Prelude.{◌≡◌, ⊤, ℕ, ◌-◌, ◌*◌, ◌<◌, ◌≤◌, true, List, [], ◌∷◌, length, sum_by, Option, Some, None}
 use Rattle.std.specs.List.{AllByRecursion, slice_get}
 use Rattle.std.specs.Option.{option_map_or}
 use Rattle.rb_base.specs.declared.site.SiteId.TheVariants.{A}
 use Rattle.rb_base.specs.declared.schema.Column.{Column}
-use Rattle.rb_base.specs.declared.schema.Column.TheVariants.{Num}
+use Rattle.rb_base.specs.declared.schema.Column.TheVariants as columns
 use Rattle.rb_base.specs.declared.schema.Schema.{Schema}
 use Rattle.rb_base.specs.declared.row.Row.{Row}
 use Rattle.rb_base.specs.declared.row.Value.{Value}
@@ -15,13 +15,20 @@ use Rattle.rb_base.specs.declared.script.ClientOp.{ClientOp}
 use Rattle.rb_base.specs.declared.script.Event.{Event}
 use Rattle.rb_base.specs.declared.script.Event.TheVariants as events
 use Rattle.rb_text_defs.specs.declared.script.Script.{Script}
-use Rattle.rb_text_defs.specs.Script.{most_lines, most_tables, most_columns, most_groups, most_replicas, default_limit, most_changes, suits_columns}
+use Rattle.rb_text_defs.specs.Script.{most_lines, most_tables, most_columns, most_row_bytes, most_groups, most_replicas, default_limit, most_changes, row_bytes, suits_columns}
 
--- a table whose name and columns keep to the limits; its columns are numbers for now
+-- a column that a line can declare: a number, or a text of at least 1 byte at most
+abbrev pub IsLegalColumn : Column → Type 0
+IsLegalColumn columns.Num = ⊤
+IsLegalColumn columns.Long = ⊥
+IsLegalColumn (columns.Text most) = 1 ≤ most
+
+-- a table whose name, columns and rows keep to the limits
 pub record IsLegalTable (table : Schema) : Type 0 where
   pub name : length table.name ≤ 32
   pub few : length table.columns ≤ most_columns
-  pub numbers : AllByRecursion (λ column. column ≡ Num) table.columns
+  pub columns : AllByRecursion IsLegalColumn table.columns
+  pub bytes : row_bytes table.columns ≤ most_row_bytes
 
 -- the columns of the table of this number, without its key
 abbrev pub columns_at : List Schema → (number : ℕ) → List Column

@@ -3,3 +3,4 @@ pub mod Form
 pub mod Script
 pub mod Legal
 pub mod Report
+pub mod LogText

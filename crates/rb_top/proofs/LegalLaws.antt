@@ -6,6 +6,7 @@ use Rattle.std.specs.Option.{option_map_or}
 use Rattle.std.proofs.Math.Nat.{mul-pos}
 use Rattle.std.proofs.lemmas.Bool.{and_parts, eq-eqb, leb-true, ne_eqb}
 use Rattle.std.proofs.lemmas.List.{length-map}
+use Rattle.std.proofs.lemmas.List.Sums.{sum_by-append}
 use Rattle.std.proofs.lemmas.List.FromFn.{length-enumerate_from}
 use Rattle.rb_base.specs.declared.schema.Column.{Column}
 use Rattle.rb_base.specs.declared.schema.Column.TheVariants as columns
@@ -21,7 +22,7 @@ use Rattle.rb_journal_defs.specs.Table.{key_in}
 use Rattle.rb_log_defs.specs.Fits.{FitsColumn, FitsColumns}
 use Rattle.rb_journal_defs.specs.Body.{mapped_table, mapped_tables}
 use Rattle.rb_text_defs.specs.declared.script.Script.{Script}
-use Rattle.rb_text_defs.specs.Script.{suits_column, suits_columns}
+use Rattle.rb_text_defs.specs.Script.{column_bytes, suits_column, suits_columns}
 use Rattle.rb_text_defs.specs.Legal.{IsLegalTable, columns_at, HasLegalRow, IsLegalOperation, IsLegal}
 use Rattle.rb_play_defs.specs.Fitting.{IsRowOf, PutsRow, OperationFits}
 use Rattle.rb_play_defs.specs.Play.{shape_of}
@@ -32,7 +33,7 @@ mapped_small : (n : ℕ) (tables : List Schema) → AllByRecursion IsLegalTable 
 mapped_small n [] legal = tt
 mapped_small n (table ∷ tables) legal = (
   record {
-    numbers = (refl, legal.0.numbers);
+    short = omega (arith, legal.0.bytes, sum_by-append column_bytes (columns.Num ∷ []) table.columns);
     some = omega arith;
     few = (let few = legal.0.few in omega arith);
     schema = refl;

@@ -1,4 +1,7 @@
 pub mod LegalLaws
+pub mod ReadLaws
 pub mod Running
 pub mod TableLaws
+pub mod TakeLaws
+pub mod TellLaws
 pub mod Topping

@@ -1,2 +1,4 @@
 pub mod Program
+pub mod ReadLog
+pub mod Reading
 pub mod Run

@@ -16,6 +16,11 @@ abbrev pub are_run : List (List ℕ) → Bool
 are_run (word ∷ []) = bytes_eq word (codes "run")
 are_run words = false
 
+-- the words are the one word `read`
+abbrev pub are_read : List (List ℕ) → Bool
+are_read (word ∷ []) = bytes_eq word (codes "read")
+are_read words = false
+
 -- a device failed
 abbrev pub IsDiskFault : Status → Type 0
 IsDiskFault (statuses.DiskFault site) = Unit {0}
@@ -33,6 +38,27 @@ abbrev pub IsRunFault : Status → Type 0
 IsRunFault (statuses.DiskFault site) = Unit {0}
 IsRunFault statuses.WriteFault = Unit {0}
 IsRunFault status = ⊥
+
+-- a log has a bad event
+abbrev pub IsBadLog : Status → Type 0
+IsBadLog (statuses.BadLog position field) = Unit {0}
+IsBadLog status = ⊥
+
+-- how the reading of a log may end
+abbrev pub IsReadingEnd : Status → Type 0
+IsReadingEnd statuses.Done = Unit {0}
+IsReadingEnd (statuses.BadLog position field) = Unit {0}
+IsReadingEnd statuses.ReadFault = Unit {0}
+IsReadingEnd statuses.WriteFault = Unit {0}
+IsReadingEnd statuses.NoMemory = Unit {0}
+IsReadingEnd status = ⊥
+
+-- the reading of a log was given up
+abbrev pub IsReadingFault : Status → Type 0
+IsReadingFault statuses.ReadFault = Unit {0}
+IsReadingFault statuses.WriteFault = Unit {0}
+IsReadingFault statuses.NoMemory = Unit {0}
+IsReadingFault status = ⊥
 
 -- the script that these bytes are the text of, where the source tells its bytes
 abbrev pub IsReadFrom : Option (List ℕ) → Script → Type 0

@@ -1,11 +1,14 @@
-//! The program: it reads a script, runs it over site A and its log device, and prints the report.
+//! The program: it reads a script, runs it over site A and its log device, and prints the report; or it reads a log back and
+//! prints its epochs.
 //!
 //! [`top`] carries the project's theorem: what the sink and the device hold at each status, and when each status comes.
 //! Below stand the parser, the site, the printer, and the edges; the program's `main` stands above.
 #![tactic(auto)]
 
+mod fault;
 mod play;
 mod program;
+mod read;
 mod run;
 mod status;
 mod words;

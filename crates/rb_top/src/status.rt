@@ -1,18 +1,22 @@
-use rb_base::SiteId;
+use rb_base::{Field, SiteId};
 use rb_script::ScriptKind;
 
 /// How a call of the program ended.
 #[derive(Clone, Copy, Debug, PartialEq, Eq)]
 pub enum Status {
-    /// The script was read to its end and run, and the whole report was written.
+    /// The input was read to its end, and the whole text was written: a script's report, behind its run, or a log's text.
     Done,
     /// The words are outside the grammar. Nothing was read, written or changed.
     Usage,
     /// The script is not legal: its first bad line, or 0 for the whole, and what is wrong there. Nothing was written.
     BadScript { line: u32, kind: ScriptKind },
-    /// The source failed. Nothing was written.
+    /// The log has an event outside the grammar: the position of the first one, in bytes from the log's start, and the
+    /// field that is wrong; `Limit` says that the log goes on at this position, behind the most bytes that are read.
+    /// The text of what stands before it was written.
+    BadLog { position: u64, field: Field },
+    /// The source failed. Of a script nothing was written, of a log the text of what was read before.
     ReadFault,
-    /// The sink failed. The log is written, and a front of the report.
+    /// The sink failed. A front of the text is written; of a script the log is written, and a front of the report.
     WriteFault,
     /// The log device of this site failed. The log may end in torn bytes; nothing was printed.
     DiskFault { site: SiteId },

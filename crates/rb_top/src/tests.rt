@@ -8,10 +8,12 @@ use std::thread::Threads;
 
 mod failures;
 mod faults;
+mod reading;
 mod refused;
 mod runs;
 mod sips;
 mod spelled;
+mod texts;
 
 /// A script of two inserts in one epoch.
 const WORKED: &[u8] = b"table t num\ntx A ins t 5 7\ntx A ins t 6 8\nepoch A\nlog A\n";

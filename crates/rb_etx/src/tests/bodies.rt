@@ -1,9 +1,8 @@
-//! Epochs small enough that their length is known, as a call of the encoder asks.
-#![tactic(auto, unfolding(rb_base::specs::Length::length_bytes, rb_log_defs::specs::Event::header_bytes, rb_log_defs::specs::Event::event_bytes, rb_log_defs::specs::Event::query_payload, rb_log_defs::specs::Event::xid_payload, rb_log_defs::specs::Table::table_map_payload, rb_log_defs::specs::Rows::text_bytes, rb_log_defs::specs::Rows::row_image, rb_log_defs::specs::Rows::rows_payload, rb_log_defs::specs::Rows::change_payload, rb_log_defs::specs::Rows::status_payload, rb_log_defs::specs::Epoch::epoch_bytes))]
+//! Epochs of a few tables and changes, as a call of the encoder asks.
+#![tactic(auto)]
 
 ghost use Rattle.std.specs.Prelude.{◌≡◌, [], ◌∷◌, ◌≤◌, length, codes, IfOk};
 ghost use Rattle.rb_base.specs.declared.row.Value.TheVariants as values;
-ghost use Rattle.rb_log_defs.specs.Epoch.{epoch_bytes};
 ghost use Rattle.rb_log_defs.specs.Fits.{CanBeWritten};
 
 use rb_base::{Change, Column, Epoch, EpochBody, Items, Kind, Mapped, NoMemory, Row, Value};
@@ -62,7 +61,8 @@ fn change(
 /// Keys 5 and 6 come.
 pub(crate) fn two_inserts(alloc: Global) -> Result<EpochBody, NoMemory>
     ensures writable { IfOk result CanBeWritten }
-    ensures fits { IfOk result (λ body. length (epoch_bytes body 115) ≤ 1000) }
+    ensures tables { IfOk result (λ body. length body.tables ≤ 2) }
+    ensures changes { IfOk result (λ body. length body.changes ≤ 2) }
 {
     let table = table(alloc, 1, b"t", &[Column::Num, Column::Num])?;
     let first = change(Kind::Insert, 1, 5, None, Some(numbers(alloc, 5, 7)?), 1);
@@ -79,7 +79,8 @@ pub(crate) fn two_inserts(alloc: Global) -> Result<EpochBody, NoMemory>
 /// Key 5 changes its value, and key 6 goes.
 pub(crate) fn other_kinds(alloc: Global) -> Result<EpochBody, NoMemory>
     ensures writable { IfOk result CanBeWritten }
-    ensures fits { IfOk result (λ body. length (epoch_bytes body 115) ≤ 1000) }
+    ensures tables { IfOk result (λ body. length body.tables ≤ 2) }
+    ensures changes { IfOk result (λ body. length body.changes ≤ 2) }
 {
     let table = table(alloc, 1, b"t", &[Column::Num, Column::Num])?;
     let before = numbers(alloc, 5, 7)?;
@@ -98,7 +99,8 @@ pub(crate) fn other_kinds(alloc: Global) -> Result<EpochBody, NoMemory>
 /// A text comes in a column whose lengths take 1 byte, and in one whose lengths take 2.
 pub(crate) fn texts(alloc: Global) -> Result<EpochBody, NoMemory>
     ensures writable { IfOk result CanBeWritten }
-    ensures fits { IfOk result (λ body. length (epoch_bytes body 115) ≤ 1000) }
+    ensures tables { IfOk result (λ body. length body.tables ≤ 2) }
+    ensures changes { IfOk result (λ body. length body.changes ≤ 2) }
 {
     let short = table(alloc, 1, b"x", &[Column::Num, Column::Text(255)])?;
     let long = table(alloc, 2, b"y", &[Column::Num, Column::Text(256)])?;
@@ -116,7 +118,8 @@ pub(crate) fn texts(alloc: Global) -> Result<EpochBody, NoMemory>
 /// Nothing but an epoch of the peer.
 pub(crate) fn reflected_alone(alloc: Global) -> Result<EpochBody, NoMemory>
     ensures writable { IfOk result CanBeWritten }
-    ensures fits { IfOk result (λ body. length (epoch_bytes body 115) ≤ 1000) }
+    ensures tables { IfOk result (λ body. length body.tables ≤ 2) }
+    ensures changes { IfOk result (λ body. length body.changes ≤ 2) }
 {
     Ok(EpochBody {
         server: 2,

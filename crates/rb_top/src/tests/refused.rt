@@ -18,8 +18,10 @@ const LOG_LIMIT: ScriptKind = ScriptKind::Limit(Limit::LogLimit);
 
 const COLUMNS: ScriptKind = ScriptKind::Limit(Limit::Columns);
 
+const ROW_BYTES: ScriptKind = ScriptKind::Limit(Limit::RowBytes);
+
 /// Short scripts that are refused, each with its first bad line and what is wrong there.
-const REFUSED: [(&[u8], u32, ScriptKind); 38] = [
+const REFUSED: [(&[u8], u32, ScriptKind); 42] = [
     // Forms.
     (b"frob\n", 1, SYNTAX),
     (b"log A\n \tfrob", 2, SYNTAX),
@@ -30,7 +32,7 @@ const REFUSED: [(&[u8], u32, ScriptKind); 38] = [
     (b"# x\r\n\r\n\tfrob\r\n", 3, SYNTAX),
     (b"table abcdefghijklmnopqrstuvwxyz_123456 num\n", 1, SYNTAX),
     (b"table aB num\n", 1, SYNTAX),
-    (b"table t text:991\n", 1, SYNTAX),
+    (b"table t text:0\n", 1, SYNTAX),
     (b"table t num\ntx A ins t 1 \"2\n", 2, SYNTAX),
     (b"# \x80\n", 1, SYNTAX),
     // Lines before.
@@ -50,6 +52,8 @@ const REFUSED: [(&[u8], u32, ScriptKind); 38] = [
     (b"table t num\ntx A ins u 1 1\n", 2, SETUP),
     (b"table t num\ntx A ins t 1\n", 2, SETUP),
     (b"table t num\ntx A ins t 1 \"2\"\n", 2, SETUP),
+    (b"table t text:1\ntx A ins t 1 \"ab\"\n", 2, SETUP),
+    (b"table t text:1\ntx A ins t 1 2\n", 2, SETUP),
     (b"fail A 1\n", 1, SETUP),
     (
         b"site A groups 2 replicas 2 limit 1048576\nrestart A 4\n",
@@ -67,6 +71,8 @@ const REFUSED: [(&[u8], u32, ScriptKind); 38] = [
         1,
         COLUMNS,
     ),
+    (b"table t text:991\n", 1, ROW_BYTES),
+    (b"table t text:70000\n", 1, ROW_BYTES),
     // The first bad line counts.
     (b"tx A ins t 1 1\nfrob\n", 1, SETUP),
     (b"frob\ntx A ins t 1 1\n", 1, SYNTAX),

@@ -1,7 +1,7 @@
-ghost use Rattle.std.specs.Prelude.{Some};
+ghost use Rattle.std.specs.Prelude.{Some, ◌<◌};
 
-use rb_base::OutFault;
-use rb_io::Sink;
+use rb_base::{Failed, OutFault};
+use rb_io::{Sink, Source, SteadySource};
 use std::alloc::Global;
 
 /// A sink that takes at most 7 bytes at a call, and fails at one of its calls. They are numbered from 0.
@@ -47,5 +47,37 @@ impl Sink for Sips {
 
     fn faults(&self) -> u64 {
         self.faults
+    }
+}
+
+/// A source that gives at most so many bytes at a call, and at least one.
+#[derive(Drop)]
+pub(super) struct Drips {
+    inner: SteadySource,
+    most: usize,
+    ghost some: { 0 < most },
+}
+
+impl Drips {
+    pub(super) fn new(inner: SteadySource, most: usize) -> Self {
+        Drips {
+            inner,
+            most: most.max(1),
+        }
+    }
+}
+
+impl Source for Drips {
+    ghost left = { λ s. Some s.inner };
+
+    ghost fault_count = { λ _. 0 };
+
+    fn read(&mut self, into: &mut [u8]) -> Result<usize, Failed> {
+        let count = self.most.min(into.len());
+        self.inner.read(&mut into[..count])
+    }
+
+    fn faults(&self) -> u64 {
+        0
     }
 }

@@ -23,7 +23,7 @@ write_change-requires-clause-fits c =
     let start = c.args.start in let server = c.args.server in let tables = c.args.tables.now in let changes = c.args.changes.now in
     let written = c.loop-index.out.items in let i = c.loop-index.index in let change = c.index-changes-index.result in
     let total : List ℕ = c.args.out.now.items ++ joined_from (start + length c.args.out.now.items) (change_events server tables changes) in
-    rw (c.position-at.ensures, c.columns_of-columns.ensures, c.flags_at.ensures) (omega (
+    rw (c.position-at.ensures, c.table_of-table.ensures.columns, c.is_last-last.ensures) (omega (
       arith,
       one_within start written (change_event server (columns_of tables change.table) change (end_flag (drop (i + 1) changes))) (change_events server tables (drop (i + 1) changes)) total
           (omega (arith, length-append c.args.out.now.items (joined_from (start + length c.args.out.now.items) (change_events server tables changes)), c.requires.fits))
@@ -36,5 +36,5 @@ loop-index-preserved c =
     let written = c.loop-index.out.items in let i = c.loop-index.index in let change = c.index-changes-index.result in
     let total : List ℕ = c.args.out.now.items ++ joined_from (start + length c.args.out.now.items) (change_events server tables changes) in
     with_one start written c.write_change.new.out.items (change_event server (columns_of tables change.table) change (end_flag (drop (i + 1) changes))) (change_events server tables (drop (i + 1) changes)) total
-    (rw (c.position-at.ensures, c.columns_of-columns.ensures, c.flags_at.ensures) at c.in_ok-write_change.ensures.ok)
+    c.position-at.result c.position-at.ensures (rw (c.table_of-table.ensures.columns, c.is_last-last.ensures) at c.in_ok-write_change.ensures)
     (change_left start server written tables changes i change total (omega arith) c.index-changes-index.is c.loop-index.invariant)

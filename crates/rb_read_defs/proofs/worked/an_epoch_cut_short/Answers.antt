@@ -3,7 +3,7 @@ use Rattle.rb_read_defs.specs.Reading.{some_bytes, number, length_number}
 use Rattle.rb_read_defs.specs.Events.{event_type, header, format, query, xid, rotate, table_map}
 use Rattle.rb_read_defs.specs.Rows.{image, rows_head, changes, statuses}
 use Rattle.rb_read_defs.specs.Stream.{cut_from, open_epoch, content_in, judge_payload, judge, seen_from, seen_of, steps_of}
-use Rattle.rb_read_defs.specs.Length.{length_read}
+use Rattle.rb_base.specs.Length.{length_read}
 use Rattle.rb_read_defs.proofs.worked.an_epoch_cut_short.Goals as goal
 
 pub returns-clause-steps : goal.returns-clause-steps

@@ -1,6 +1,6 @@
 use Rattle.std.proofs.Common.{refl}
 use Rattle.rb_log_defs.specs.Event.{header_bytes, query_payload}
-use Rattle.rb_read_defs.specs.Length.{length_read}
+use Rattle.rb_base.specs.Length.{length_read}
 use Rattle.rb_read_defs.specs.Reading.{some_bytes, number, length_number}
 use Rattle.rb_read_defs.specs.Events.{event_type, header, format, query, xid, rotate, table_map}
 use Rattle.rb_read_defs.specs.Rows.{image, rows_head, changes, statuses}

@@ -1,8 +1,9 @@
-use Rattle.std.proofs.Common.{◌≡◌, ◌∙◌, ap, Option, Some, None, refl}
+use Rattle.std.proofs.Common.{◌≡◌, ◌∙◌, ap, Option, map, Some, None, refl}
 use Rattle.std.specs.Prelude.{is_some}
 use Rattle.std.specs.List.{find}
 use Rattle.std.specs.Option.{option_map}
 use Rattle.rb_text_defs.specs.Script.{is_named}
+use Rattle.rb_script.specs.Seen.{column_seen}
 use Rattle.rb_script.proofs.TellsLaws.{site_misplaced, table_misplaced}
 use Rattle.rb_script.proofs.before.Before.is_misplaced.Goals as goal
 
@@ -19,4 +20,4 @@ returns-else-self-2 c = λ forms told.
     let is : c.is_some-else-self-2.result ≡ is_some (find (is_named c.in-Table.name.now) c.args.self.now.tables) =
     c.is_some-else-self-2.ensures ∙ some_mapped (λ table. table.now) c.table_named.result ∙ ap is_some c.table_named.ensures
     ∙ ap (λ tables. is_some (find (is_named c.in-Table.name.now) tables)) c.as_slice.ensures in
-    rw c.in-Table.is (table_misplaced forms c.args.self.now c.in-Table.name.now c.in-Table.field-1 c.is_some-else-self-2.result told c.if-self-2.false is)
+    rw c.in-Table.is (table_misplaced forms c.args.self.now c.in-Table.name.now (map column_seen c.in-Table.field-1.items) c.is_some-else-self-2.result told c.if-self-2.false is)

@@ -2,7 +2,7 @@ use Rattle.std.proofs.Common.{◌∷◌, [], ◌++◌, ◌+◌, ◌≤◌, map, 
 use Rattle.rb_text_defs.specs.Form.{SiteLine, TableLine, TxLine, EventLine, Says}
 use Rattle.rb_text_defs.specs.Script.{closes_in_form, restarts_in_form}
 use Rattle.rb_text_defs.proofs.Lines.{not_misplaced}
-use Rattle.rb_script.specs.Seen.{operation_seen}
+use Rattle.rb_script.specs.Seen.{column_seen, operation_seen}
 use Rattle.rb_script.specs.Tells.{Tells, forms_of}
 use Rattle.rb_script.specs.declared.before.Before.{Before}
 use Rattle.rb_script.proofs.TellsLaws.{told_site, told_table, told_tx, told_event}
@@ -17,17 +17,19 @@ returns-in-Site-clause-told c =
 
 pub returns-in_ok-take_table-in-Table-clause-told : goal.returns-in_ok-take_table-in-Table-clause-told
 returns-in_ok-take_table-in-Table-clause-told c =
-    let form = TableLine c.in-Table.name.now c.in-Table.columns in
+    let columns = map column_seen c.in-Table.types.items in
+    let form = TableLine c.in-Table.name.now columns in
     let room = rw c.in-Table.is at c.requires.room in
+    let taken = rw c.deref.ensures.value at c.in_ok-take_table-in-Table.ensures in
     rw c.in-Table.is (λ readings told fine.
-    subst (λ after. Tells (readings ++ Says form ∷ []) after) (sym c.in_ok-take_table-in-Table.ensures)
-    (told_table readings c.args.self.now c.in-Table.name.now c.in-Table.columns told room (not_misplaced (forms_of readings) (c.args.self.now.lines + 1) form fine)))
+    subst (λ after. Tells (readings ++ Says form ∷ []) after) (sym taken)
+    (told_table readings c.args.self.now c.in-Table.name.now columns told room (not_misplaced (forms_of readings) (c.args.self.now.lines + 1) form fine)))
 
 pub returns-in_ok-take_tx-in-Tx-clause-told : goal.returns-in_ok-take_tx-in-Tx-clause-told
 returns-in_ok-take_tx-in-Tx-clause-told c =
     let operations = map operation_seen c.in-Tx.operations.items in
     let room = rw c.in-Tx.is at c.requires.room in
-    let taken = rw c.deref.ensures.value at c.in_ok-take_tx-in-Tx.ensures in
+    let taken = rw c.deref-in-Tx.ensures.value at c.in_ok-take_tx-in-Tx.ensures in
     rw c.in-Tx.is (λ readings told fine.
     subst (λ after. Tells (readings ++ Says (TxLine c.in-Tx.site operations) ∷ []) after) (sym taken)
     (told_tx readings c.args.self.now c.in-Tx.site operations told room))

@@ -10,6 +10,7 @@ use Rattle.rb_message_defs.proofs.Assembly.{journal_assembly}
 use Rattle.rb_play_defs.specs.Step.{takeable}
 use Rattle.rb_site.proofs.BodyFits.{can_be_written}
 use Rattle.rb_site.proofs.InjectLaws.{next_is, none_taken, buffer_stays, buffer_taken, next_there, written_small, room_below, err_anyway}
+use Rattle.rb_site.proofs.WriteLaws.{few_tables, few_changes}
 use Rattle.rb_site.proofs.TakeLaws.{site_same, site_passed, site_logged, leaves_same, leaves_next}
 use Rattle.rb_site.proofs.site.Site.take_next.Goals as goal
 
@@ -37,6 +38,24 @@ write_body-requires-clause-writable g c =
     let file = g.D.LogDisk.seen c.args.disk.now 1 in
     let next = next_there shape c.args.self.now file run c.in-Some.assembled c.in_ok-body.body c.as_slice.result.now held (λ fed stands chained. c.in-Some.ensures.answer fed stands chained) c.as_slice.ensures c.in_ok-body.ensures in
     subst CanBeWritten (sym next.body_is) (can_be_written shape next.epoch run.journal held.declared held.fits)
+
+pub write_body-requires-clause-few_tables : goal.write_body-requires-clause-few_tables
+write_body-requires-clause-few_tables g c =
+    let (acknowledged, shape, run, held) = c.requires.fits in
+    let file = g.D.LogDisk.seen c.args.disk.now 1 in
+    let next = next_there shape c.args.self.now file run c.in-Some.assembled c.in_ok-body.body c.as_slice.result.now held (λ fed stands chained. c.in-Some.ensures.answer fed stands chained) c.as_slice.ensures c.in_ok-body.ensures in
+    let some : has_something_to_log (body_of shape next.epoch run.journal) ≡ true = sym (ap has_something_to_log next.body_is) ∙ sym c.has_something.ensures ∙ c.if-not-has_something.false in
+    let same = ap (λ (b : EpochBody). length b.tables) next.body_is in
+    omega (arith, same, few_tables shape next.epoch run.journal held.declared, few_changes shape c.args.self.now file run next.epoch next.rest held next.front some)
+
+pub write_body-requires-clause-few_changes : goal.write_body-requires-clause-few_changes
+write_body-requires-clause-few_changes g c =
+    let (acknowledged, shape, run, held) = c.requires.fits in
+    let file = g.D.LogDisk.seen c.args.disk.now 1 in
+    let next = next_there shape c.args.self.now file run c.in-Some.assembled c.in_ok-body.body c.as_slice.result.now held (λ fed stands chained. c.in-Some.ensures.answer fed stands chained) c.as_slice.ensures c.in_ok-body.ensures in
+    let some : has_something_to_log (body_of shape next.epoch run.journal) ≡ true = sym (ap has_something_to_log next.body_is) ∙ sym c.has_something.ensures ∙ c.if-not-has_something.false in
+    let same = ap (λ (b : EpochBody). length b.changes) next.body_is in
+    omega (arith, same, few_changes shape c.args.self.now file run next.epoch next.rest held next.front some)
 
 pub write_body-requires-clause-fits : goal.write_body-requires-clause-fits
 write_body-requires-clause-fits g c =

@@ -1,0 +1,21 @@
+-- The columns of a table map, one at a time.
+use Rattle.std.specs.Prelude.{◌≡◌, ◌≤◌, ℕ, ◌==◌, true, if◌then◌else◌, List, length, get_or}
+use Rattle.byteorder.specs.Endian.{little_number}
+use Rattle.rb_base.specs.declared.schema.Column.{Column}
+use Rattle.rb_base.specs.declared.schema.Column.TheVariants.{Num, Long, Text}
+use Rattle.rb_base.specs.declared.schema.Mapped.{Mapped}
+use Rattle.rb_read_defs.specs.Events.{is_status}
+
+-- a table with columns that its rows events can be read by: 1 to 64, and the apply-status table has its server's number first
+pub record HasColumns (table : Mapped) : Type 0 where
+  pub some : 1 ≤ length table.columns
+  pub few : length table.columns ≤ 64
+  pub server : is_status table.schema table.name ≡ true → get_or table.columns 0 Num ≡ Long
+
+-- how many bytes of metadata a column of this type has
+abbrev pub width_of : (kind : ℕ) → ℕ
+width_of kind = if kind == 15 then 2 else 0
+
+-- the column of this type, whose metadata stands first
+abbrev pub column_from : (kind : ℕ) → (metadata : List ℕ) → Column
+column_from kind metadata = if kind == 15 then Text (little_number 2 metadata) else (if kind == 3 then Long else Num)

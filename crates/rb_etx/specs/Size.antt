@@ -1,0 +1,24 @@
+-- How many bytes the events of an epoch have.
+use Rattle.std.specs.Prelude.{ℕ, ◌+◌, List, length}
+use Rattle.std.specs.List.{sum_by}
+use Rattle.rb_base.specs.declared.change.Change.{Change}
+use Rattle.rb_base.specs.declared.schema.Mapped.{Mapped}
+use Rattle.rb_log_defs.specs.Event.{header_size}
+use Rattle.rb_log_defs.specs.Table.{table_map_payload, columns_of}
+use Rattle.rb_log_defs.specs.Rows.{change_payload}
+
+-- the map of a table
+abbrev pub map_size : Mapped → ℕ
+map_size table = header_size + length (table_map_payload table)
+
+-- the maps of tables
+abbrev pub maps_size : List Mapped → ℕ
+maps_size tables = sum_by map_size tables
+
+-- the rows event of a change, whose flag takes no room
+abbrev pub change_size : List Mapped → Change → ℕ
+change_size tables change = header_size + length (change_payload (columns_of tables change.table) change 0)
+
+-- the rows events of changes
+abbrev pub changes_size : List Mapped → List Change → ℕ
+changes_size tables changes = sum_by (change_size tables) changes

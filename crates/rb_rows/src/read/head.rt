@@ -1,0 +1,78 @@
+ghost use Rattle.std.specs.Prelude.{◌≡◌, ◌≤◌, length};
+ghost use Rattle.rb_read_defs.specs.Rows.{present, presents, rows_head, transid_in};
+ghost use Rattle.rb_codec.specs.Fields.{Gives};
+
+use byteorder::{ByteOrder, LittleEndian};
+use rb_base::{CodecFault, Field, Kind, Mapped};
+use rb_codec::{Fields, all_set, check};
+
+/// The first byte of extra data that carries a transaction's number.
+const TRANSID: u8 = 0x52;
+
+/// What stands before the rows of a table's event of this kind: table id, flags, extra data, and which columns there
+/// are. It gives the transaction's number.
+#[tactic(auto, unfolding(rb_read_defs::specs::Rows::rows_head))]
+pub(crate) fn read_head(fields: &mut Fields, kind: Kind, table: &Mapped) -> Result<u64, CodecFault>
+    requires some { 1 ≤ length table.now.columns }
+    requires most { length table.now.columns ≤ 64 }
+    ensures gives { Gives (λ transid. transid) result fields.new.at (rows_head kind table.now fields.old.bytes.now fields.old.at) }
+    ensures bytes { fields.new.bytes ≡ fields.old.bytes }
+{
+    let columns = table.columns.as_slice().len();
+    let at = fields.at();
+    let id = fields.number(6)?;
+    check(id == u64::from(table.id), at, Field::TableId)?;
+    fields.number(2)?;
+    let at = fields.at();
+    let size = fields.number(2)? as usize;
+    check(2 <= size, at, Field::Extra)?;
+    let extra = fields.some_bytes(size - 2)?;
+    let at = fields.at();
+    let width = fields.length_number(Field::Width)?;
+    check(width == columns as u64, at, Field::Width)?;
+    read_presents(fields, kind, columns)?;
+    Ok(transid_in(extra))
+}
+
+/// The transaction's number in the extra data; 0 where it is of another form.
+fn transid_in(extra: &[u8]) -> u64
+    ensures { result ≡ transid_in extra.now }
+{
+    if extra.len() != 9 || extra[0] != TRANSID {
+        return 0;
+    }
+    LittleEndian::read_u64(&extra[1..])
+}
+
+/// The present bitmaps of so many columns: an update has one for each image.
+fn read_presents<'a>(
+    fields: &mut Fields<'a>,
+    kind: Kind,
+    columns: usize,
+) -> Result<&'a [u8], CodecFault>
+    requires some { 1 ≤ columns }
+    requires most { columns ≤ 64 }
+    ensures gives { Gives (λ bitmap. bitmap.now) result fields.new.at (presents kind columns fields.old.bytes.now fields.old.at) }
+    ensures bytes { fields.new.bytes ≡ fields.old.bytes }
+{
+    match kind {
+        Kind::Update => {
+            read_present(fields, columns)?;
+            read_present(fields, columns)
+        }
+        Kind::Insert | Kind::Remove => read_present(fields, columns),
+    }
+}
+
+/// The present bitmap of an image of so many columns: all are there.
+fn read_present<'a>(fields: &mut Fields<'a>, columns: usize) -> Result<&'a [u8], CodecFault>
+    requires some { 1 ≤ columns }
+    requires most { columns ≤ 64 }
+    ensures gives { Gives (λ bitmap. bitmap.now) result fields.new.at (present columns fields.old.bytes.now fields.old.at) }
+    ensures bytes { fields.new.bytes ≡ fields.old.bytes }
+{
+    let at = fields.at();
+    let bitmap = fields.some_bytes((columns + 7) / 8)?;
+    check(all_set(columns, bitmap), at, Field::Present)?;
+    Ok(bitmap)
+}

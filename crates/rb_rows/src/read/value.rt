@@ -1,0 +1,109 @@
+ghost use Rattle.std.specs.Prelude.{◌≡◌, ◌≢◌, ◌≤◌, Err, IfOk, OnOk};
+ghost use Rattle.rb_rows.specs.Rows.{IsFirstLong, IsLong};
+ghost use Rattle.rb_base.specs.declared.faults.CodecFault.TheVariants.{NoMemory as CodecOutOfMemory};
+ghost use Rattle.rb_base.specs.declared.faults.Field.TheVariants.{Key};
+ghost use Rattle.rb_base.specs.declared.schema.Column.TheVariants.{Text as TextColumn};
+ghost use Rattle.rb_base.specs.declared.row.Value.TheVariants.{Text};
+ghost use Rattle.rb_read_defs.specs.Reading.{that};
+ghost use Rattle.rb_read_defs.specs.Rows.{value_in, values_in, is_key, number_in};
+ghost use Rattle.rb_codec.specs.Fields.{Gives};
+
+use rb_base::{Bytes, CodecFault, Column, Field, Items, NoMemory, Row, Value, Values};
+use rb_codec::{Fields, check};
+use std::alloc::Global;
+
+/// The next values, one of each column. The first one is this key, where one is given; else `BadField` with `Key`.
+pub(crate) fn read_values(
+    alloc: Global,
+    fields: &mut Fields,
+    columns: &[Column],
+    key: Option<u64>,
+) -> Result<Values, CodecFault>
+    ensures gives { result ≢ Err CodecOutOfMemory → Gives (λ values. values) result fields.new.at (values_in columns.now key fields.old.bytes.now fields.old.at) }
+    ensures bytes { fields.new.bytes ≡ fields.old.bytes }
+    ensures later { OnOk result (fields.old.at ≤ fields.new.at) }
+    ensures long { IfOk result (λ values. IsFirstLong columns.now values) }
+{
+    let mut values = Items::new(alloc);
+    let mut wanted = key;
+    for column in columns {
+        values.push(read_keyed(alloc, fields, *column, wanted)?)?;
+        wanted = None;
+    }
+    Ok(values)
+}
+
+/// The next value, of this column, which is this key where one is given.
+fn read_keyed(
+    alloc: Global,
+    fields: &mut Fields,
+    column: Column,
+    key: Option<u64>,
+) -> Result<Value, CodecFault>
+    ensures gives { result ≢ Err CodecOutOfMemory → Gives (λ value. value) result fields.new.at (that Key (is_key key) (value_in column) fields.old.bytes.now fields.old.at) }
+    ensures bytes { fields.new.bytes ≡ fields.old.bytes }
+    ensures later { OnOk result (fields.old.at ≤ fields.new.at) }
+    ensures long { IfOk result (λ value. IsLong column value) }
+{
+    let at = fields.at();
+    let value = read_value(alloc, fields, column)?;
+    check(is_key(key, &value), at, Field::Key)?;
+    Ok(value)
+}
+
+/// Whether a value is this number, where one is given.
+fn is_key(key: Option<u64>, value: &Value) -> bool
+    ensures { result ≡ is_key key value.now }
+{
+    match (key, value) {
+        (None, _) => true,
+        (Some(key), Value::Num(number)) => key == *number,
+        (Some(_), Value::Text(_)) => false,
+    }
+}
+
+/// The next value, of this column.
+#[tactic(auto, unfolding(rb_read_defs::specs::Reading::number))]
+fn read_value(alloc: Global, fields: &mut Fields, column: Column) -> Result<Value, CodecFault>
+    ensures gives { result ≢ Err CodecOutOfMemory → Gives (λ value. value) result fields.new.at (value_in column fields.old.bytes.now fields.old.at) }
+    ensures bytes { fields.new.bytes ≡ fields.old.bytes }
+    ensures later { OnOk result (fields.old.at ≤ fields.new.at) }
+    ensures long { IfOk result (λ value. IsLong column value) }
+{
+    match column {
+        Column::Num => Ok(Value::Num(fields.number(8)?)),
+        Column::Long => Ok(Value::Num(fields.number(4)?)),
+        Column::Text(most) => Ok(Value::Text(read_text(alloc, fields, most)?)),
+    }
+}
+
+/// The next text, of a column of texts of at most so many bytes. Its length stands before it.
+#[tactic(auto, unfolding(rb_read_defs::specs::Reading::number, rb_read_defs::specs::Reading::some_bytes))]
+fn read_text(alloc: Global, fields: &mut Fields, most: u16) -> Result<Bytes, CodecFault>
+    ensures gives { result ≢ Err CodecOutOfMemory → Gives (λ text. Text text) result fields.new.at (value_in (TextColumn most) fields.old.bytes.now fields.old.at) }
+    ensures bytes { fields.new.bytes ≡ fields.old.bytes }
+    ensures later { OnOk result (fields.old.at ≤ fields.new.at) }
+{
+    let at = fields.at();
+    let size = fields.number(if most <= 255 { 1 } else { 2 })?;
+    check(size <= u64::from(most), at, Field::Length)?;
+    let text = fields.some_bytes(size as usize)?;
+    Ok(bytes_of(alloc, text)?)
+}
+
+/// The list of these bytes.
+fn bytes_of(alloc: Global, bytes: &[u8]) -> Result<Bytes, NoMemory>
+    ensures { IfOk result (λ list. list ≡ bytes.now) }
+{
+    Ok(Items::from_vec(Vec::from_slice(alloc, bytes)?))
+}
+
+/// The number that a row has in a column, and 0 where it has none.
+pub(crate) fn number_in(row: &Row, column: usize) -> u64
+    ensures { result ≡ number_in row.now column }
+{
+    match row.values.as_slice().get(column) {
+        Some(Value::Num(number)) => *number,
+        _ => 0,
+    }
+}

@@ -1,0 +1,58 @@
+ghost use Rattle.std.specs.Prelude.{◌≡◌, ◌+◌, ◌^◌, ◌-◌, ◌≤◌, ◌++◌, OnOk};
+ghost use Rattle.byteorder.specs.Endian.{little_bytes};
+ghost use Rattle.rb_log_defs.specs.Rows.{transid_extra, present_bitmap, present_bitmaps};
+ghost use Rattle.rb_rows.specs.Written.{flag_of};
+
+use byteorder::{ByteOrder, LittleEndian};
+use rb_base::{Kind, NoMemory};
+
+/// What begins the extra data of a rows event that carries a transaction's number.
+const TRANSID: u8 = 0x52;
+
+/// The table's id, the flags, and the extra data, which is the transaction's number, behind its length.
+pub(crate) fn rows_head(table: u16, last: bool, transid: u64) -> [u8; 19]
+    ensures { result ≡ little_bytes 6 table ++ (little_bytes 2 (flag_of last) ++ (little_bytes 2 11 ++ transid_extra transid)) }
+{
+    let mut bytes = [0u8; 19];
+    LittleEndian::write_u48(&mut bytes, table as u64);
+    LittleEndian::write_u16(&mut bytes[6..], if last { 1 } else { 0 });
+    LittleEndian::write_u16(&mut bytes[8..], 11);
+    bytes[10] = TRANSID;
+    LittleEndian::write_u64(&mut bytes[11..], transid);
+    bytes
+}
+
+/// Appends the bitmaps of the columns that are present: one for each image of the kind.
+pub(crate) fn write_present(out: &mut Vec<u8>, kind: Kind, columns: usize) -> Result<(), NoMemory>
+    requires { columns ≤ 64 }
+    ensures { OnOk result (out.new.items ≡ out.old.items ++ present_bitmaps kind columns) }
+{
+    match kind {
+        Kind::Insert | Kind::Remove => write_bitmap(out, columns)?,
+        Kind::Update => {
+            write_bitmap(out, columns)?;
+            write_bitmap(out, columns)?;
+        }
+    }
+    Ok(())
+}
+
+/// Appends a bitmap in which every column is present.
+#[tactic(auto, using(crate::proofs::Images::bitmap_cut))]
+fn write_bitmap(out: &mut Vec<u8>, columns: usize) -> Result<(), NoMemory>
+    requires { columns ≤ 64 }
+    ensures { OnOk result (out.new.items ≡ out.old.items ++ present_bitmap columns) }
+{
+    let mut bytes = [0u8; 8];
+    LittleEndian::write_u64(&mut bytes, all_present(columns));
+    out.extend_from_slice(&bytes[..(columns + 7) / 8])?;
+    Ok(())
+}
+
+/// A number whose lowest `columns` bits are 1.
+fn all_present(columns: usize) -> u64
+    requires { columns ≤ 64 }
+    ensures { result ≡ 2 ^ columns - 1 }
+{
+    ((1u128 << columns) - 1) as u64
+}

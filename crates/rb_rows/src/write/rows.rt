@@ -1,0 +1,55 @@
+ghost use Rattle.std.specs.Prelude.{◌≡◌, ◌≤◌, [], ◌∷◌, ◌++◌, length, All, IfOk, OnOk, OnErr};
+ghost use Rattle.rb_log_defs.specs.Fits.{Fits};
+ghost use Rattle.rb_rows.specs.Written.{rows_written};
+
+use crate::write::head::{rows_head, write_present};
+use crate::write::image::write_images;
+use crate::write::size::size_of_rows;
+use rb_base::{Change, Mapped, NoMemory, write_length};
+use std::alloc::Global;
+
+/// Appends the payload of the rows event of these changes of a table, for now of exactly one, after the row-event
+/// chapter of the binlog format. `last` sets the flag that ends the statement. Without memory the output stays as it
+/// was.
+pub fn write_rows(
+    alloc: Global,
+    out: &mut Vec<u8>,
+    table: &Mapped,
+    changes: &[Change],
+    last: bool,
+) -> Result<(), NoMemory>
+    requires one { length changes.now ≡ 1 }
+    requires few { length table.now.columns ≤ 64 }
+    requires fits { All (λ change. Fits table.now.columns change) changes.now }
+    requires named { All (λ change. change.table ≡ table.now.id) changes.now }
+    ensures ok { OnOk result (out.new.items ≡ out.old.items ++ rows_written table.now changes.now last) }
+    ensures err { OnErr result (out.new.items ≡ out.old.items) }
+{
+    let payload = rows_payload(alloc, table, changes, last)?;
+    out.extend_from_slice(&payload)?;
+    Ok(())
+}
+
+/// That payload. It is made apart, so that the output has all of it or nothing.
+#[tactic(auto, unfolding(rb_log_defs::specs::Rows::rows_payload), using(crate::proofs::Images::one_change))]
+fn rows_payload(
+    alloc: Global,
+    table: &Mapped,
+    changes: &[Change],
+    last: bool,
+) -> Result<Vec<u8>, NoMemory>
+    requires one { length changes.now ≡ 1 }
+    requires few { length table.now.columns ≤ 64 }
+    requires fits { All (λ change. Fits table.now.columns change) changes.now }
+    ensures { IfOk result (λ payload. payload.items ≡ rows_written table.now changes.now last) }
+{
+    let change = &changes[0];
+    let columns = table.columns.as_slice();
+    let size = size_of_rows(table, changes);
+    let mut payload = Vec::with_capacity(alloc, size as usize)?;
+    payload.extend_from_slice(&rows_head(table.id, last, change.transid))?;
+    write_length(alloc, &mut payload, columns.len() as u64)?;
+    write_present(&mut payload, change.kind, columns.len())?;
+    write_images(&mut payload, columns, change)?;
+    Ok(payload)
+}

@@ -1,0 +1,113 @@
+ghost use Rattle.std.specs.Prelude.{◌≡◌, ◌≤◌, Bool, length, All};
+ghost use Rattle.rb_log_defs.specs.Rows.{present_bitmaps, value_bytes, values_bytes, image_of, images_of};
+ghost use Rattle.rb_log_defs.specs.Fits.{Fits, FitsColumn, FitsColumns, IsImage};
+ghost use Rattle.rb_rows.specs.Written.{rows_written, status_written};
+
+use rb_base::{Change, Column, EpochBody, Kind, Mapped, Row, Value};
+
+/// The bytes of a payload before its bitmaps: the table's id, flags, extra data behind its length, and the number of
+/// columns.
+const HEAD_SIZE: u64 = 20;
+
+/// How many bytes the payload has that `write_rows` appends, at most 8388788.
+#[tactic(auto, using(crate::proofs::Images::one_length))]
+pub fn size_of_rows(table: &Mapped, changes: &[Change]) -> u64
+    requires one { length changes.now ≡ 1 }
+    requires few { length table.now.columns ≤ 64 }
+    requires fits { All (λ change. Fits table.now.columns change) changes.now }
+    ensures size { (last : Bool) → result ≡ length (rows_written table.now changes.now last) }
+    ensures most { result ≤ 8388788 }
+{
+    let change = &changes[0];
+    let columns = table.columns.as_slice();
+    HEAD_SIZE + presents_size(change.kind, columns.len()) + images_size(columns, change)
+}
+
+/// The size of the bitmaps of the columns that are present.
+#[tactic(auto, using(crate::proofs::Images::bitmap_length, crate::proofs::Images::two_bitmaps))]
+fn presents_size(kind: Kind, columns: usize) -> u64
+    requires { columns ≤ 64 }
+    ensures size { result ≡ length (present_bitmaps kind columns) }
+    ensures most { result ≤ 16 }
+{
+    let bitmap = (columns as u64 + 7) / 8;
+    match kind {
+        Kind::Insert | Kind::Remove => bitmap,
+        Kind::Update => 2 * bitmap,
+    }
+}
+
+/// How many bytes the payload has that `write_status` appends: 42, or 72 with the primary's row.
+#[tactic(auto, unfolding(rb_log_defs::specs::Rows::rows_payload, rb_base::specs::Length::length_bytes, rb_log_defs::specs::Rows::row_image, rb_log_defs::specs::Rows::text_bytes))]
+pub fn size_of_status(body: &EpochBody) -> u64
+    ensures size { (last : Bool) → result ≡ length (status_written body.now last) }
+    ensures most { result ≤ 72 }
+{
+    match body.reflected {
+        None => 42,
+        Some(_) => 72,
+    }
+}
+
+/// The size of the row images of a change.
+fn images_size(columns: &[Column], change: &Change) -> u64
+    requires change { Fits columns.now change.now }
+    requires few { length columns.now ≤ 64 }
+    ensures size { result ≡ length (images_of change.now.kind columns.now change.now.before change.now.after) }
+    ensures most { result ≤ 8388752 }
+{
+    match change.kind {
+        Kind::Insert => image_of_size(columns, &change.after),
+        Kind::Update => {
+            image_of_size(columns, &change.before) + image_of_size(columns, &change.after)
+        }
+        Kind::Remove => image_of_size(columns, &change.before),
+    }
+}
+
+/// The size of the image of a row that may be absent: nothing where it is.
+#[tactic(auto, unfolding(rb_log_defs::specs::Rows::row_image))]
+fn image_of_size(columns: &[Column], row: &Option<Row>) -> u64
+    requires image { IsImage columns.now row.now }
+    requires few { length columns.now ≤ 64 }
+    ensures size { result ≡ length (image_of columns.now row.now) }
+    ensures most { result ≤ 4194376 }
+{
+    match row {
+        Some(row) => {
+            (columns.len() as u64 + 7) / 8 + values_size(columns, row.values.as_slice())
+        }
+        None => 0,
+    }
+}
+
+fn values_size(columns: &[Column], values: &[Value]) -> u64
+    requires fits { FitsColumns columns.now values.now }
+    requires few { length columns.now ≤ 64 }
+    ensures size { result ≡ length (values_bytes columns.now values.now) }
+    ensures most { result ≤ 4194368 }
+{
+    let mut size = 0;
+    for index in 0..columns.len() {
+        size += value_size(columns[index], &values[index]);
+    }
+    size
+}
+
+/// The size of a value as a column of its type holds it.
+#[tactic(auto, unfolding(rb_log_defs::specs::Rows::text_bytes))]
+fn value_size(column: Column, value: &Value) -> u64
+    requires { FitsColumn column value.now }
+    ensures size { result ≡ length (value_bytes column value.now) }
+    ensures most { result ≤ 65537 }
+{
+    match (column, value) {
+        (Column::Num, Value::Num(_)) => 8,
+        (Column::Long, Value::Num(_)) => 4,
+        (Column::Text(most), Value::Text(text)) => {
+            let width = if most <= 255 { 1 } else { 2 };
+            width + text.as_slice().len() as u64
+        }
+        _ => 0,
+    }
+}

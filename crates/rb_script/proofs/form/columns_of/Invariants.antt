@@ -1,8 +1,0 @@
-use Rattle.std.proofs.Common.{◌≡◌, map, take, Some}
-use Rattle.rb_text_defs.specs.Words.{all_of}
-use Rattle.rb_text_defs.specs.Form.{type_of}
-use Rattle.rb_script.specs.Seen.{word_of}
-use Rattle.rb_script.proofs.form.columns_of.Given as goal
-
-abbrev pub invariant-loop-word : goal.invariant-loop-word
-invariant-loop-word l = all_of (map (λ word. type_of (word_of word)) (take l.word-index l.types)) ≡ Some l.columns.items

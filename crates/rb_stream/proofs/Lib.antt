@@ -1,0 +1,6 @@
+mod CutLaws
+mod IdLaws
+mod MapLaws
+mod NextLaws
+mod TakeLaws
+mod TellLaws

@@ -1,0 +1,15 @@
+use Rattle.std.proofs.Common.{refl}
+use Rattle.rb_read_defs.specs.Stream.{open_epoch}
+use Rattle.rb_stream.proofs.TakeLaws.{opened, map_taken, map_outside}
+use Rattle.rb_stream.proofs.taking.take_map.Goals as goal
+
+pub returns-in-None : goal.returns-in-None
+returns-in-None c known held = (refl, map_outside c.args.current.now c.args.end c.args.server c.args.table known c.in-None.is held, refl)
+
+pub returns : goal.returns
+returns c known held = (
+  refl,
+  map_taken c.in-Some.epoch c.map.new.self c.args.end c.args.server c.args.table known (opened c.args.current.now c.in-Some.epoch (open_epoch known) c.in-Some.is held)
+      c.in_ok-map-in-Some.ensures.ok c.in_ok-map-in-Some.ensures.told c.in_ok-map-in-Some.ensures.changes,
+  refl,
+)

@@ -1,0 +1,42 @@
+-- What a decoder stands for, and what it answers next.
+use Rattle.std.specs.Prelude.{◌≡◌, ◌+◌, ◌++◌, ℕ, List, [], ◌∷◌, length, Option, Some, None, Result, Ok, Err}
+use Rattle.rb_base.specs.declared.faults.Field.{Field}
+use Rattle.rb_read_defs.specs.Stream.{Known, seen_of, steps_of, step_of, settled_at}
+use Rattle.rb_read_defs.specs.declared.answers.Step.{Step}
+use Rattle.rb_read_defs.specs.declared.answers.Step.TheVariants as steps
+use Rattle.rb_stream.specs.Next.{IsAheadOf}
+use Rattle.rb_stream.specs.declared.fault.StreamFault.{StreamFault}
+use Rattle.rb_stream.specs.declared.fault.StreamFault.TheVariants as faults
+use Rattle.rb_stream.specs.declared.decoder.Decoder.{Decoder}
+
+-- the position behind all bytes that a decoder was fed
+abbrev pub fed_to : Decoder → ℕ
+fed_to decoder = decoder.at + length decoder.unread
+
+-- a decoder that began at this position and was fed these bytes has answered for these events, the newest first, which are the first
+-- ones of those that are seen
+pub record StandsFor (decoder : Decoder) (position : ℕ) (bytes : List ℕ) (passed : List Known) : Type 0 where
+  pub fed : fed_to decoder ≡ position + length bytes
+  pub seen : (later : List Known) × ((seen_of position bytes).known ≡ later ++ passed)
+  pub settled : decoder.settled ≡ settled_at position passed
+  pub ahead : IsAheadOf decoder position bytes passed
+
+-- a step that is given behind these events: events that give none, and then one that gives it
+pub record GivesStep (passed : List Known) (step : Step) (now : List Known) : Type 0 where
+  pub quiet : List Known
+  pub silent : steps_of (quiet ++ passed) ≡ steps_of passed
+  pub event : Known
+  pub events : now ≡ event ∷ (quiet ++ passed)
+  pub given : step_of (quiet ++ passed) event ≡ step ∷ []
+
+-- all events of the bytes give no step behind these, and what is behind them is bad in this, or in nothing
+pub record GivesNoStep (position : ℕ) (bytes : List ℕ) (passed : List Known) (bad : Option (ℕ × Field)) : Type 0 where
+  pub silent : steps_of (seen_of position bytes).known ≡ steps_of passed
+  pub fault : (seen_of position bytes).fault ≡ bad
+
+-- what a decoder that was fed these bytes answers behind these events, and what it stands for then
+abbrev pub Answers : (position : ℕ) → (bytes : List ℕ) → (passed : List Known) → Result Step StreamFault → (decoder : Decoder) → Type 0
+Answers position bytes passed (Ok steps.NeedMore) decoder = GivesNoStep position bytes passed None × StandsFor decoder position bytes (seen_of position bytes).known
+Answers position bytes passed (Ok step) decoder = (now : List Known) × GivesStep passed step now × StandsFor decoder position bytes now
+Answers position bytes passed (Err (faults.BadEvent at field)) decoder = GivesNoStep position bytes passed (Some (at, field)) × StandsFor decoder position bytes (seen_of position bytes).known
+Answers position bytes passed (Err faults.NoMemory) decoder = StandsFor decoder position bytes passed

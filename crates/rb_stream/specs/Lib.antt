@@ -1,0 +1,7 @@
+pub mod Content
+pub mod Decoder
+pub mod Epoch
+pub mod Fault
+pub mod Next
+pub mod Taking
+pub mod Told
