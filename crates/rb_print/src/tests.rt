@@ -1,3 +1,6 @@
+ghost use Rattle.std.specs.Prelude.{◌≡◌, IfOk};
+ghost use Rattle.rb_text_defs.specs.LogText.{Ascend};
+
 use super::*;
 use rb_base::{
     Bytes, Change, Changes, Columns, Epoch, EpochBody, Kind, Listed, ListedEvents, Mapped,
@@ -96,6 +99,29 @@ fn row(alloc: Global, key: u64, text: &[u8]) -> Result<Row, Fail> {
     Ok(Row { values })
 }
 
+// A table of this id and name, without columns.
+fn mapped(alloc: Global, id: u16, name: &[u8]) -> Result<Mapped, Fail>
+    ensures { IfOk result (λ table. table.id ≡ id) }
+{
+    Ok(Mapped {
+        id,
+        schema: bytes(alloc, b"db")?,
+        name: bytes(alloc, name)?,
+        columns: Columns::new(alloc),
+    })
+}
+
+// The tables 1 and 7.
+#[tactic(auto, unfolding(rb_text_defs::specs::LogText::Ascend))]
+fn two_tables(alloc: Global) -> Result<MappedTables, Fail>
+    ensures { IfOk result (λ tables. Ascend tables) }
+{
+    let mut tables = MappedTables::new(alloc);
+    tables.push(mapped(alloc, 1, b"t")?)?;
+    tables.push(mapped(alloc, 7, b"a\"")?)?;
+    Ok(tables)
+}
+
 /// A change of each kind, each to a table of its own.
 fn changes_of_each_kind(alloc: Global) -> Result<Changes, Fail> {
     let mut changes = Changes::new(alloc);
@@ -127,15 +153,7 @@ fn changes_of_each_kind(alloc: Global) -> Result<Changes, Fail> {
 #[test]
 fn an_epoch(rt: HostRuntime) -> Result<(), Fail> {
     let alloc = rt.alloc();
-    let mut tables = MappedTables::new(alloc);
-    for id in [1u16, 7] {
-        tables.push(Mapped {
-            id,
-            schema: bytes(alloc, b"db")?,
-            name: bytes(alloc, if id == 1 { b"t" } else { b"a\"" })?,
-            columns: Columns::new(alloc),
-        })?;
-    }
+    let tables = two_tables(alloc)?;
     let changes = changes_of_each_kind(alloc)?;
     let body = EpochBody {
         server: 2,
