@@ -8,10 +8,12 @@
 
 mod device;
 mod failing;
+mod fault;
 mod memory;
 
 pub use device::LogDisk;
 pub use failing::FailingDisk;
+pub use fault::DiskLogFault;
 pub use memory::MemoryDisk;
 
 #[cfg(test)]

@@ -1,0 +1,17 @@
+-- What a fault of a log on a device tells of that device.
+use Rattle.std.specs.Prelude.{ℕ, ◌≤◌, Result, IsErrOf}
+use Rattle.rb_base.specs.declared.faults.OutFault.{OutFault}
+use Rattle.rb_base.specs.declared.faults.OutFault.TheVariants as outs
+use Rattle.rb_base.specs.Faults.{Rose}
+use Rattle.rb_disk.specs.declared.fault.DiskLogFault.{DiskLogFault}
+use Rattle.rb_disk.specs.declared.fault.DiskLogFault.TheVariants as faults
+
+-- the log's fault for one of the device
+abbrev pub fault_of : OutFault → DiskLogFault
+fault_of outs.Failed = faults.DiskFault
+fault_of outs.NoMemory = faults.NoMemory
+
+-- the device failed only where its count rose
+pub record HasDiskCause {T : Type 0} (before now : ℕ) (result : Result T DiskLogFault) : Type 0 where
+  pub later : before ≤ now
+  pub failed : IsErrOf result faults.DiskFault → Rose before now
