@@ -1,7 +1,7 @@
 -- A site's log on its device: as it is written, and as recovery may find it.
-use Rattle.std.specs.Prelude.{◌≡◌, ℕ, ⊤, ◌<◌, ◌≤◌, ◌^◌, List, length, map, All, Option, Some, None}
+use Rattle.std.specs.Prelude.{◌≡◌, ℕ, ⊤, ◌<◌, ◌≤◌, ◌^◌, List, length, All, Option, Some, None}
 use Rattle.std.specs.List.{last_or}
-use Rattle.std.specs.List.Sorted.{IsStrictlyIncreasing}
+use Rattle.std.specs.List.Sorted.{IsNonDecreasingBy}
 use Rattle.rb_base.specs.declared.site.SiteId.{SiteId}
 use Rattle.rb_base.specs.declared.body.EpochBody.{EpochBody}
 use Rattle.rb_base.specs.declared.body.IndexRow.{IndexRow}
@@ -35,7 +35,7 @@ pub record HasRoomInLog (body : EpochBody) : Type 0 where
   pub few : length body.changes < 2 ^ 32
   pub epoch : body.epoch.0 < 2 ^ 64
 
--- bodies that a log can have: each has room, and their epochs rise
+-- bodies that a log can have: each has room, and their epochs never fall
 pub record CanBeLogged (bodies : List EpochBody) : Type 0 where
   pub room : All HasRoomInLog bodies
-  pub rising : IsStrictlyIncreasing (map (λ body. body.epoch.0) bodies)
+  pub in_order : IsNonDecreasingBy (λ body. body.epoch.0) bodies

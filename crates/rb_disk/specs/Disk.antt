@@ -1,5 +1,5 @@
 -- What the calls of a log device do to the bytes of a file.
-use Rattle.std.specs.Prelude.{◌≡◌, ℕ, ◌+◌, ◌≤◌, max, List, ◌++◌, length, take, drop}
+use Rattle.std.specs.Prelude.{◌≡◌, ℕ, ◌+◌, ◌<◌, ◌≤◌, max, List, [], ◌++◌, length, take, drop}
 
 -- new is old with these bytes at this place
 abbrev pub Holds : List ℕ → ℕ → List ℕ → List ℕ → Type 0
@@ -17,3 +17,9 @@ pub record CutShort (len : ℕ) (old new : List ℕ) : Type 0 where
   pub no_shorter : len ≤ length new
   pub no_longer : length new ≤ length old
   pub front : take len new ≡ take len old
+
+-- of all files this is the lowest that is not empty, and it has this length
+pub record IsLowestFile (file size : ℕ) (seen : ℕ → List ℕ) : Type 0 where
+  pub there : length (seen file) ≡ size
+  pub some : 0 < size
+  pub lower : (other : ℕ) → other < file → seen other ≡ []

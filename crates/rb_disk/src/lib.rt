@@ -9,11 +9,13 @@
 mod device;
 mod failing;
 mod fault;
+mod lowest;
 mod memory;
 
 pub use device::LogDisk;
 pub use failing::FailingDisk;
 pub use fault::DiskLogFault;
+pub use lowest::lowest_file;
 pub use memory::MemoryDisk;
 
 #[cfg(test)]

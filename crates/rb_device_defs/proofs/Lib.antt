@@ -1,0 +1,3 @@
+pub mod FrontLaws
+pub mod ImageLaws
+pub mod RowLaws
