@@ -1,0 +1,6 @@
+pub mod LegalFits
+mod NamedTables
+mod Room
+mod TableRoom
+mod BodyReads
+mod RunKeeps
