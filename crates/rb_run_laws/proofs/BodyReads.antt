@@ -1,5 +1,5 @@
 -- The body of an epoch of site A is read back, where the changes of its journal fit the tables and have room.
-use Rattle.std.proofs.Common.{◌≡◌, ℕ, ◌<◌, ◌≤◌, ◌^◌, Bool, true, false, cond, List, [], ◌∷◌, length, map, filter, refl, sym, ap, subst, ◌∙◌, arith, eq-eqb, eqb-true}
+use Rattle.std.proofs.Common.{◌≡◌, ℕ, ◌+◌, ◌*◌, ◌<◌, ◌≤◌, ◌^◌, Bool, true, false, cond, List, [], ◌∷◌, length, map, filter, refl, sym, ap, subst, ◌∙◌, arith, eq-eqb, eqb-true}
 use Rattle.std.specs.Prelude.{◌==◌, ◌||◌, not, codes, Option, Some, None, IfSome}
 use Rattle.std.specs.List.{AllByRecursion, flat_map}
 use Rattle.std.proofs.lemmas.Bool.{and_parts}
@@ -13,12 +13,15 @@ use Rattle.rb_base.specs.declared.row.Value.{Value}
 use Rattle.rb_base.specs.declared.row.Value.TheVariants as values
 use Rattle.rb_base.specs.declared.change.Change.{Change}
 use Rattle.rb_base.specs.Length.{length_bytes}
+use Rattle.rb_base.specs.declared.body.EpochBody.{EpochBody}
+use Rattle.rb_journal_defs.proofs.Counts.{filter_length}
 use Rattle.rb_log_defs.specs.Event.{Placed, xid_event}
 use Rattle.rb_log_defs.specs.Table.{columns_of, table_map_payload, table_map_event, status_table}
 use Rattle.rb_log_defs.specs.Rows.{text_bytes, row_image, rows_payload, status_payload, end_flag}
-use Rattle.rb_log_defs.specs.Epoch.{change_events, epoch_events}
+use Rattle.rb_log_defs.specs.Epoch.{change_events, epoch_bytes, epoch_events}
+use Rattle.rb_log_defs.specs.Fits.{Fits}
 use Rattle.rb_log_defs.proofs.Sizes.{event_length, query_length, xid_length}
-use Rattle.rb_log_defs.proofs.Bounds.{AreShort, map_bound, change_bound}
+use Rattle.rb_log_defs.proofs.Bounds.{AreShort, IsNarrow, map_bound, change_bound, epoch_bound}
 use Rattle.rb_journal_defs.specs.Journal.{Journal}
 use Rattle.rb_journal_defs.specs.Body.{Shape, mapped_tables, is_named_in, is_logged, body_changes, body_of, body_with, part_of, numbers_below}
 use Rattle.rb_journal_defs.specs.Table.{key_in}
@@ -142,27 +145,67 @@ events_short epoch tables changes room all = (
   ),
 )
 
+-- the tables and the changes of a body of site A keep to that
+record AreRead (schemas : List Schema) (changes : List Change) : Type 0 where
+  declared : AllByRecursion (FitsTables (mapped_tables schemas)) changes
+  tables : AllByRecursion TableHasRoom (filter (is_named_in changes) (mapped_tables schemas))
+  each : AllByRecursion (λ change. Reads (columns_of (filter (is_named_in changes) (mapped_tables schemas)) change.table) change) changes
+
+are_read : (buckets : ℕ) (schemas : List Schema) (epoch : ℕ) (journal : Journal) → AllByRecursion IsLegalTable schemas → length schemas ≤ most_tables → JournalFits (primary buckets schemas) journal → JournalHasRoom (primary buckets schemas) journal →
+    AreRead schemas (body_changes (primary buckets schemas) epoch journal)
+are_read buckets schemas epoch journal legal few fits room =
+    let shape = primary buckets schemas in
+    let changes = body_changes shape epoch journal in
+    let whole = tables_room 1 schemas legal (omega arith) (omega arith) in
+    let here = body_fits shape epoch journal fits in
+    record {
+      declared = here;
+      tables = all_filtered TableHasRoom (is_named_in changes) (mapped_tables schemas) whole;
+      each = all_read (mapped_tables schemas) changes changes whole here (body_room shape epoch journal room) (all_pass (is_logged A) (flat_map (λ bucket. part_of shape epoch bucket journal) (numbers_below buckets))) (named_here changes);
+    }
+
+-- the body of an epoch is read back
 pub body_reads : (buckets : ℕ) (schemas : List Schema) (epoch : ℕ) (journal : Journal) → AllByRecursion IsLegalTable schemas → length schemas ≤ most_tables → epoch < 2 ^ 64 → JournalFits (primary buckets schemas) journal →
     JournalHasRoom (primary buckets schemas) journal → IsReadable (body_of (primary buckets schemas) epoch journal)
 unfolding body_of
 body_reads buckets schemas epoch journal legal few below fits room =
-    let shape = primary buckets schemas in
-    let changes = body_changes shape epoch journal in
+    let changes = body_changes (primary buckets schemas) epoch journal in
     let tables = filter (is_named_in changes) (mapped_tables schemas) in
-    let whole = tables_room 1 schemas legal (omega arith) (omega arith) in
-    let named_tables = all_filtered TableHasRoom (is_named_in changes) (mapped_tables schemas) whole in
-    let here = body_fits shape epoch journal fits in
-    let all = all_read (mapped_tables schemas) changes changes whole here (body_room shape epoch journal room) (all_pass (is_logged A) (flat_map (λ bucket. part_of shape epoch bucket journal) (numbers_below buckets))) (named_here changes) in
+    let are = are_read buckets schemas epoch journal legal few fits room in
     let count : length (mapped_tables schemas) ≡ length schemas = count_mapped schemas in record {
       server = omega arith;
       epoch = below;
       reflected = tt;
       own = λ one. refl;
       named = named_as_read schemas changes (all_more (FitsTables (mapped_tables schemas)) (λ change. (1 ≤ change.table) × (change.table ≤ length schemas)) changes
-          (λ change held. (held.declared.0, (let most = held.declared.1 in omega arith))) here);
-      tables = All-from_recursion IsReadableTable tables (all_more TableHasRoom IsReadableTable tables (λ table held. held.readable) named_tables);
-      above = All-from_recursion (λ (table : Mapped). 0 < table.id) tables (all_more TableHasRoom (λ (table : Mapped). 0 < table.id) tables (λ table held. held.above) named_tables);
+          (λ change held. (held.declared.0, (let most = held.declared.1 in omega arith))) are.declared);
+      tables = All-from_recursion IsReadableTable tables (all_more TableHasRoom IsReadableTable tables (λ table held. held.readable) are.tables);
+      above = All-from_recursion (λ (table : Mapped). 0 < table.id) tables (all_more TableHasRoom (λ (table : Mapped). 0 < table.id) tables (λ table held. held.above) are.tables);
       changes = All-from_recursion (λ (change : Change). IsReadableChange 1 (columns_of tables change.table) change) changes
-          (all_more (λ (change : Change). Reads (columns_of tables change.table) change) (λ (change : Change). IsReadableChange 1 (columns_of tables change.table) change) changes (λ change held. held.readable) all);
-      sizes = All-from_recursion IsShortEvent (epoch_events (body_with shape epoch None changes)) (events_short epoch tables changes named_tables all);
+          (all_more (λ (change : Change). Reads (columns_of tables change.table) change) (λ (change : Change). IsReadableChange 1 (columns_of tables change.table) change) changes (λ change held. held.readable) are.each);
+      sizes = All-from_recursion IsShortEvent (epoch_events (body_with (primary buckets schemas) epoch None changes)) (events_short epoch tables changes are.tables are.each);
     }
+
+-- how many bytes an epoch has at most: so many for its tables and all else that it has once, and so many for each change
+abbrev pub most_bytes_of : EpochBody → ℕ
+most_bytes_of body = 3962 + 2047 * length body.changes
+
+-- an epoch has no more, wherever it starts
+abbrev pub IsShortBody : EpochBody → Type 0
+IsShortBody body = (start : ℕ) → length (epoch_bytes body start) ≤ most_bytes_of body
+
+-- the body of an epoch is short
+pub body_short : (buckets : ℕ) (schemas : List Schema) (epoch : ℕ) (journal : Journal) → AllByRecursion IsLegalTable schemas → length schemas ≤ most_tables → JournalFits (primary buckets schemas) journal → JournalHasRoom (primary buckets schemas) journal →
+    IsShortBody (body_of (primary buckets schemas) epoch journal)
+unfolding body_of
+body_short buckets schemas epoch journal legal few fits room start =
+    let changes = body_changes (primary buckets schemas) epoch journal in
+    let tables = filter (is_named_in changes) (mapped_tables schemas) in
+    let are = are_read buckets schemas epoch journal legal few fits room in
+    omega (
+      arith,
+      epoch_bound (body_of (primary buckets schemas) epoch journal) start (all_more TableHasRoom IsNarrow tables (λ table held. held.narrow) are.tables)
+          (all_more (λ (change : Change). Reads (columns_of tables change.table) change) (λ (change : Change). AreShort (columns_of tables change.table) × Fits (columns_of tables change.table) change) changes (λ change held. (held.short, held.readable.fits)) are.each),
+      filter_length (is_named_in changes) (mapped_tables schemas),
+      count_mapped schemas,
+    )

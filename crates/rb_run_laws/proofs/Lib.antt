@@ -4,3 +4,5 @@ mod Room
 mod TableRoom
 mod BodyReads
 mod RunKeeps
+mod RunBytes
+mod FilesRead
