@@ -31,7 +31,12 @@ use Rattle.rb_play_defs.specs.Play.{log_of, files_of}
 use Rattle.rb_run_laws.proofs.BodyReads.{most_bytes_of, IsShortBody}
 use Rattle.rb_run_laws.proofs.RunKeeps.{written_read}
 use Rattle.rb_run_laws.proofs.RunBytes.{log_short}
-use Rattle.rb_run_laws.specs.Files.{place_after, epoch_steps, IsReadAs, AreReadAs}
+use Rattle.rb_run_laws.specs.Files.{epoch_steps, IsReadAs, AreReadAs}
+
+-- where these epochs end, the first of which starts at a position
+abbrev place_after : (start : ℕ) → List EpochBody → ℕ
+place_after start [] = start
+place_after start (body ∷ bodies) = place_after (start + length (epoch_bytes body start)) bodies
 
 -- one epoch more
 steps_after : (start : ℕ) (done : List EpochBody) (body : EpochBody) → epoch_steps start (done ++ body ∷ []) ≡ epoch_steps start done ++ steps.Epoch body (place_after start done + length (epoch_bytes body (place_after start done))) ∷ []

@@ -8,12 +8,7 @@ use Rattle.rb_read_defs.specs.Stream.{seen_of, steps_of, rest_of}
 use Rattle.rb_read_defs.specs.declared.answers.Step.{Step}
 use Rattle.rb_read_defs.specs.declared.answers.Step.TheVariants as steps
 
--- where these epochs end, the first of which starts at a position
-abbrev pub place_after : (start : ℕ) → List EpochBody → ℕ
-place_after start [] = start
-place_after start (body ∷ bodies) = place_after (start + length (epoch_bytes body start)) bodies
-
--- a step for each of them, with the position behind it
+-- a step for each of these epochs, the first of which starts at a position, with the position behind it
 abbrev pub epoch_steps : (start : ℕ) → List EpochBody → List Step
 epoch_steps start [] = []
 epoch_steps start (body ∷ bodies) =
