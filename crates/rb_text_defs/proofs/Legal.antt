@@ -1,5 +1,5 @@
 -- A script that is read keeps to the limits, and its operations suit its tables.
-use Rattle.std.proofs.Common.{◌≡◌, ℕ, zero, suc, ◌+◌, ◌-◌, ◌<◌, ◌≤◌, Bool, true, false, ◌||◌, List, [], ◌∷◌, ◌++◌, length, map, take, Option, Some, None, refl, ap, sym, ◌∙◌, subst, append_assoc, append-nil, length-append, arith}
+use Rattle.std.proofs.Common.{◌≡◌, ℕ, zero, suc, ◌+◌, ◌-◌, ◌^◌, ◌<◌, ◌≤◌, Bool, true, false, ◌||◌, List, [], ◌∷◌, ◌++◌, length, map, take, Option, Some, None, refl, ap, sym, ◌∙◌, subst, append_assoc, append-nil, length-append, arith}
 use Rattle.std.specs.Prelude.{nat_le, nat_lt, ◌&&◌, ◌==◌, ◌*◌, not, filter_map, is_some, sum_by, if◌then◌else◌, IfSome, Result, Ok, Err}
 use Rattle.std.specs.Option.{option_map, option_map_or}
 use Rattle.std.specs.List.{AllByRecursion, cons_option, enumerate_from, find, list_all, list_any, position_or_len, slice_get}
@@ -24,8 +24,8 @@ use Rattle.rb_text_defs.specs.declared.script.Script.{Script}
 use Rattle.rb_text_defs.specs.Words.{lines_of}
 use Rattle.rb_text_defs.specs.Form.{Operation, Form, SiteLine, TableLine, TxLine, EventLine, Reading, Wrong, Skipped, Says, reading_of}
 use Rattle.rb_text_defs.specs.Script.{most_bytes, most_lines, most_tables, most_columns, most_groups, most_replicas, most_changes, most_row_bytes, most_tx_changes, most_work, default_limit, row_bytes, work_of, default_site, first_of, nodes_in, shape_in, table_in, tables_in, is_event, changes_in_form, client_op, row_for, table_number, has_values, is_named, suits_table, suits_tables, events_of, form_in, is_misplaced, limit_passed, refusal_of_line, refused_lines, script_in, script_of, script_of_readings}
-use Rattle.rb_text_defs.specs.Legal.{IsLegal, IsLegalTable, IsLegalOperation, IsLegalEvent, HasLegalRow, changes_in_event, columns_at}
-use Rattle.rb_text_defs.proofs.Said.{IsSaidBy, reading_said}
+use Rattle.rb_text_defs.specs.Legal.{IsLegal, IsLegalTable, IsLegalValue, IsLegalOperation, IsLegalEvent, HasLegalRow, changes_in_event, columns_at}
+use Rattle.rb_text_defs.proofs.Said.{IsSaidBy, IsSaidOperation, reading_said}
 use Rattle.rb_text_defs.proofs.Lines.{events_more, forms_more, forms_of, no_events, none_given, not_misplaced, or_left, or_right}
 
 within_length : {X : Type 0} (xs : List X) (n : ℕ) (x : X) → slice_get xs n ≡ Some x → n < length xs
@@ -33,14 +33,14 @@ within_length [] n x is = absurd (cc)
 within_length (y ∷ xs) zero x is = omega arith
 within_length (y ∷ xs) (suc n) x is = omega (arith, within_length xs n x is)
 
-row_legal : (op : Op) (columns : List Column) (key : ℕ) (values : List Value) → has_values op columns values ≡ true → HasLegalRow op columns key (row_for op key values)
-row_legal Ins columns key values suits = (values, refl, suits)
-row_legal Upd columns key values suits = (values, refl, suits)
-row_legal Put columns key values suits = (values, refl, suits)
-row_legal Del columns key values suits = refl
+row_legal : (op : Op) (columns : List Column) (key : ℕ) (values : List Value) → has_values op columns values ≡ true → key < 2 ^ 64 → AllByRecursion IsLegalValue values → HasLegalRow op columns key (row_for op key values)
+row_legal Ins columns key values suits room all = (values, refl, suits, (room, all))
+row_legal Upd columns key values suits room all = (values, refl, suits, (room, all))
+row_legal Put columns key values suits room all = (values, refl, suits, (room, all))
+row_legal Del columns key values suits room all = refl
 
-operation_legal : (tables : List Schema) (operation : Operation) → suits_tables tables operation ≡ true → IsLegalOperation tables (client_op tables operation)
-operation_legal tables operation suits = go (find (is_named operation.table) tables) refl suits
+operation_legal : (tables : List Schema) (operation : Operation) → suits_tables tables operation ≡ true → IsSaidOperation operation → IsLegalOperation tables (client_op tables operation)
+operation_legal tables operation suits said = go (find (is_named operation.table) tables) refl suits
   where
     go : (found : Option Schema) → find (is_named operation.table) tables ≡ found → option_map_or (suits_table operation) found false ≡ true → IsLegalOperation tables (client_op tables operation)
     go None is suits = absurd (false≢true suits)
@@ -55,14 +55,15 @@ operation_legal tables operation suits = go (find (is_named operation.table) tab
         record {
           some = omega (arith, number);
           declared = omega (arith, number, lt);
-          row = subst (λ columns. HasLegalRow operation.op columns operation.key (row_for operation.op operation.key operation.values)) (sym columns) (row_legal operation.op table.columns operation.key operation.values suits);
+          key = said.key;
+          row = subst (λ columns. HasLegalRow operation.op columns operation.key (row_for operation.op operation.key operation.values)) (sym columns) (row_legal operation.op table.columns operation.key operation.values suits said.key said.values);
         }
 
-operations_legal : (tables : List Schema) (operations : List Operation) → list_all (suits_tables tables) operations ≡ true → AllByRecursion (IsLegalOperation tables) (map (client_op tables) operations)
-operations_legal tables [] suit = tt
-operations_legal tables (operation ∷ operations) suit =
+operations_legal : (tables : List Schema) (operations : List Operation) → list_all (suits_tables tables) operations ≡ true → AllByRecursion IsSaidOperation operations → AllByRecursion (IsLegalOperation tables) (map (client_op tables) operations)
+operations_legal tables [] suit said = tt
+operations_legal tables (operation ∷ operations) suit said =
     let parts = and_parts (suits_tables tables operation) (list_all (suits_tables tables) operations) suit in
-    (operation_legal tables operation parts.0, operations_legal tables operations parts.1)
+    (operation_legal tables operation parts.0 said.0, operations_legal tables operations parts.1 said.1)
 
 all_append : {X : Type 0} (P : X → Type 0) (xs ys : List X) → AllByRecursion P xs → AllByRecursion P ys → AllByRecursion P (xs ++ ys)
 all_append P [] ys all more = more
@@ -232,7 +233,7 @@ so_far_more readings (Says (TxLine site operations)) so fine said =
     (events_behind readings (Says form) form (lined ∷ []) refl (events_more (tables_in forms) readings (Says form)))
     (keeps_form forms (events_of (tables_in forms) readings) (lined ∷ []) (length readings) form so refl
     (subst (λ (shapes : List SiteSetup). IfSome (first_of shapes) IsLegalShape) (sym (same_shapes forms form refl)) so.shape)
-    (events_and forms form (events_of (tables_in forms) readings) (lined ∷ []) refl so.events ((said, operations_legal (tables_in forms) operations (not-false (list_all (suits_tables (tables_in forms)) operations) placed)), tt)) (omega arith) (ltb-false most_lines (length readings + 1) within.0)
+    (events_and forms form (events_of (tables_in forms) readings) (lined ∷ []) refl so.events ((said.0, operations_legal (tables_in forms) operations (not-false (list_all (suits_tables (tables_in forms)) operations) placed) said.1), tt)) (omega arith) (ltb-false most_lines (length readings + 1) within.0)
     (omega (arith, length-map operations (client_op (tables_in forms)))) (ltb-false most_changes (sum_by changes_in_form forms + length operations) within.2))
 so_far_more readings (Says (EventLine event)) so fine said =
     let form = EventLine event in

@@ -1,26 +1,31 @@
 -- What a line says keeps to, by its words alone.
-use Rattle.std.proofs.Common.{◌≡◌, ℕ, ◌≤◌, Bool, true, false, List, [], ◌∷◌, length, map, Option, Some, None, refl}
+use Rattle.std.proofs.Common.{◌≡◌, ℕ, ◌<◌, ◌≤◌, ◌^◌, Bool, true, false, List, [], ◌∷◌, length, map, Option, Some, None, refl}
 use Rattle.std.specs.Prelude.{nat_le, ◌&&◌, if◌then◌else◌, codes, ⊤, IfSome}
 use Rattle.std.specs.List.{AllByRecursion, list_all, slice_split}
 use Rattle.std.specs.Option.{option_and_then, option_map, option_map_or}
-use Rattle.std.proofs.lemmas.Bool.{leb-true, leb-false, and_parts}
+use Rattle.std.proofs.lemmas.Bool.{leb-true, leb-false, ltb-true, and_parts}
 use Rattle.rb_base.specs.declared.site.SiteId.{SiteId}
 use Rattle.rb_base.specs.declared.site.SiteId.TheVariants.{A}
-use Rattle.rb_base.specs.declared.schema.Column.{Column}
 use Rattle.rb_base.specs.declared.schema.Column.TheVariants.{Num, Text}
 use Rattle.rb_base.specs.declared.schema.Schema.{Schema}
+use Rattle.rb_base.specs.declared.row.Value.TheVariants as values
 use Rattle.rb_base.specs.declared.script.Event.{Event}
 use Rattle.rb_base.specs.declared.script.Event.TheVariants as events
-use Rattle.rb_text_defs.specs.Words.{Word, Plain, Quoted, ◌>>=◌, all_of, begins_with, is_letter, is_name, is_name_byte, name_of, number_of, words_of, is_line_byte, is_skipped}
-use Rattle.rb_text_defs.specs.Form.{Form, SiteLine, TableLine, TxLine, EventLine, Reading, Wrong, Skipped, Says, deliver_line, form_from, form_of, is_word, maximum_of, operation_of, reading_of, says, node_event, site_event, site_line, site_of, small_number_of, table_line, text_type, tx_line, type_of}
+use Rattle.rb_text_defs.specs.Words.{Word, Plain, Quoted, ◌>>=◌, all_of, begins_with, decimal_value, is_letter, is_name, is_name_byte, is_number, name_of, number_of, words_of, is_line_byte, is_skipped}
+use Rattle.rb_text_defs.specs.Form.{Operation, Form, SiteLine, TableLine, TxLine, EventLine, Reading, Wrong, Skipped, Says, deliver_line, form_from, form_of, is_word, maximum_of, may_have, op_of, operation_of, reading_of, says, node_event, site_event, site_line, site_of, small_number_of, table_line, text_type, tx_line, type_of, value_of}
 use Rattle.rb_text_defs.specs.Script.{node_in}
-use Rattle.rb_text_defs.specs.Legal.{IsLegalColumn, IsLegalEvent, changes_in_event}
+use Rattle.rb_text_defs.specs.Legal.{IsLegalColumn, IsLegalEvent, IsLegalValue, changes_in_event}
 
--- what a form keeps to: a name's length, columns of a type, site A, and no changes outside transactions
+-- what an operation keeps to: its numbers have 64 bits
+pub record IsSaidOperation (operation : Operation) : Type 0 where
+  pub key : operation.key < 2 ^ 64
+  pub values : AllByRecursion IsLegalValue operation.values
+
+-- what a form keeps to: a name's length, columns of a type, site A, numbers of 64 bits, and no changes outside transactions
 abbrev pub IsSaid : Form → Type 0
 IsSaid (SiteLine site groups replicas limit) = ⊤
 IsSaid (TableLine name columns) = (length name ≤ 32) × AllByRecursion IsLegalColumn columns
-IsSaid (TxLine site operations) = site ≡ A
+IsSaid (TxLine site operations) = (site ≡ A) × AllByRecursion IsSaidOperation operations
 IsSaid (EventLine event) = ((tables : List Schema) (nodes : ℕ) → option_map_or (nat_le nodes) (node_in event) false ≡ false → IsLegalEvent tables nodes event) × (changes_in_event event ≡ 0)
 
 if_bound : {X Y : Type 0} (P : X → Type 0) (Q : Y → Type 0) (value : Option X) (next : X → Option Y) → IfSome value P → ((x : X) → P x → IfSome (next x) Q) → IfSome (value >>= next) Q
@@ -62,17 +67,47 @@ type_said word = if_chosen IsLegalColumn (is_word (codes "num") word) (Some Num)
     text_said None = tt
     text_said (Some most) = some most (nat_le 1 most) (leb-true 1 most)
 
-columns_said : (words : List Word) → IfSome (all_of (map type_of words)) (AllByRecursion IsLegalColumn)
-columns_said [] = tt
-columns_said (word ∷ words) = pick (type_of word) (map type_of words) (type_said word) (columns_said words)
+-- what each word says, where all say something
+each_said : {X Y : Type 0} (P : Y → Type 0) (f : X → Option Y) → ((x : X) → IfSome (f x) P) → (xs : List X) → IfSome (all_of (map f xs)) (AllByRecursion P)
+each_said P f said [] = tt
+each_said P f said (x ∷ xs) = pick P (f x) (map f xs) (said x) (each_said P f said xs)
   where
-    more : (column : Column) (others : Option (List Column)) → IsLegalColumn column → IfSome others (AllByRecursion IsLegalColumn) → IfSome (option_map (λ others. column ∷ others) others) (AllByRecursion IsLegalColumn)
-    more column None legal all = tt
-    more column (Some others) legal all = (legal, all)
+    more : {Y : Type 0} (P : Y → Type 0) (y : Y) (others : Option (List Y)) → P y → IfSome others (AllByRecursion P) → IfSome (option_map (λ others. y ∷ others) others) (AllByRecursion P)
+    more P y None here all = tt
+    more P y (Some others) here all = (here, all)
 
-    pick : (first : Option Column) (values : List (Option Column)) → IfSome first IsLegalColumn → IfSome (all_of values) (AllByRecursion IsLegalColumn) → IfSome (all_of (first ∷ values)) (AllByRecursion IsLegalColumn)
-    pick None values legal all = tt
-    pick (Some column) values legal all = more column (all_of values) legal all
+    pick : {Y : Type 0} (P : Y → Type 0) (first : Option Y) (values : List (Option Y)) → IfSome first P → IfSome (all_of values) (AllByRecursion P) → IfSome (all_of (first ∷ values)) (AllByRecursion P)
+    pick P None values here all = tt
+    pick P (Some y) values here all = more P y (all_of values) here all
+
+columns_said : (words : List Word) → IfSome (all_of (map type_of words)) (AllByRecursion IsLegalColumn)
+columns_said words = each_said IsLegalColumn type_of type_said words
+
+number_said : (word : Word) → IfSome (number_of word) (λ number. number < 2 ^ 64)
+unfolding number_of
+number_said (Quoted text) = tt
+number_said (Plain bytes) = go (is_number bytes) (λ is. ltb-true (decimal_value bytes) (2 ^ 64) (and_parts _ _ is).1)
+  where
+    go : (b : Bool) → (b ≡ true → decimal_value bytes < 2 ^ 64) → IfSome (if b then Some (decimal_value bytes) else None) (λ number. number < 2 ^ 64)
+    go true few = few refl
+    go false few = tt
+
+value_said : (word : Word) → IfSome (value_of word) IsLegalValue
+unfolding value_of
+value_said (Quoted text) = tt
+value_said (Plain bytes) = if_mapped (λ number. number < 2 ^ 64) IsLegalValue (λ number. values.Num number) (number_of (Plain bytes)) (number_said (Plain bytes)) (λ number room. room)
+
+operation_said : (words : List Word) → IfSome (operation_of words) IsSaidOperation
+unfolding operation_of
+operation_said [] = tt
+operation_said (op ∷ []) = tt
+operation_said (op ∷ table ∷ []) = tt
+operation_said (op ∷ table ∷ key ∷ values) =
+    if_bound (λ x. ⊤) IsSaidOperation (op_of op) _ (if_any (op_of op)) (λ what _.
+    if_bound (λ x. ⊤) IsSaidOperation (name_of table) _ (if_any (name_of table)) (λ name _.
+    if_bound (λ number. number < 2 ^ 64) IsSaidOperation (number_of key) _ (number_said key) (λ number room.
+    if_bound (AllByRecursion IsLegalValue) IsSaidOperation (all_of (map value_of values)) _ (each_said IsLegalValue value_of value_said values) (λ others all.
+    if_chosen IsSaidOperation (may_have what others) (Some (record { op = what; table = name; key = number; values = others })) None (record { key = room; values = all }) tt))))
 
 site_line_said : (words : List Word) → IfSome (site_line words) IsSaid
 unfolding site_line
@@ -103,7 +138,7 @@ unfolding tx_line
 tx_line_said [] = tt
 tx_line_said (site ∷ words) =
     if_bound (λ site. site ≡ A) IsSaid (site_of site) _ (site_said site) (λ id is.
-    if_bound (λ x. ⊤) IsSaid (all_of (map operation_of (slice_split (is_word (codes ";")) words))) _ (if_any (all_of (map operation_of (slice_split (is_word (codes ";")) words)))) (λ operations _. is))
+    if_bound (AllByRecursion IsSaidOperation) IsSaid (all_of (map operation_of (slice_split (is_word (codes ";")) words))) _ (each_said IsSaidOperation operation_of operation_said (slice_split (is_word (codes ";")) words)) (λ operations all. (is, all)))
 
 site_event_said : (event : SiteId → Event) → ((site : SiteId) → site ≡ A → ((tables : List Schema) (nodes : ℕ) → option_map_or (nat_le nodes) (node_in (event site)) false ≡ false → IsLegalEvent tables nodes (event site)) × (changes_in_event (event site) ≡ 0)) → (words : List Word) → IfSome (site_event event words) IsSaid
 unfolding site_event

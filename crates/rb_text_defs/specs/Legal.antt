@@ -1,5 +1,5 @@
 -- What a legal script keeps to: the limits, and operations that suit the tables.
-use Rattle.std.specs.Prelude.{◌≡◌, ⊤, ℕ, ◌-◌, ◌*◌, ◌<◌, ◌≤◌, true, List, [], ◌∷◌, length, sum_by, Option, Some, None}
+use Rattle.std.specs.Prelude.{◌≡◌, ⊤, ℕ, ◌-◌, ◌*◌, ◌^◌, ◌<◌, ◌≤◌, true, List, [], ◌∷◌, length, sum_by, Option, Some, None}
 use Rattle.std.specs.List.{AllByRecursion, slice_get}
 use Rattle.std.specs.Option.{option_map_or}
 use Rattle.rb_base.specs.declared.site.SiteId.TheVariants.{A}
@@ -34,10 +34,16 @@ pub record IsLegalTable (table : Schema) : Type 0 where
 abbrev pub columns_at : List Schema → (number : ℕ) → List Column
 columns_at tables number = option_map_or (λ table. table.columns) (slice_get tables (number - 1)) []
 
--- a row has this key first, and then values that suit these columns
+-- a value that a line can say: a number of 64 bits, or a text
+abbrev pub IsLegalValue : Value → Type 0
+IsLegalValue (values.Num number) = number < 2 ^ 64
+IsLegalValue (values.Text text) = ⊤
+
+-- a row has this key first, and then values that suit these columns, and a line can say all of them
 abbrev pub IsLegalRow : List Column → (key : ℕ) → Option Row → Type 0
 IsLegalRow columns key None = ⊥
-IsLegalRow columns key (Some row) = (others : List Value) × (row.values ≡ values.Num key ∷ others) × (suits_columns columns others ≡ true)
+IsLegalRow columns key (Some row) =
+    (others : List Value) × (row.values ≡ values.Num key ∷ others) × (suits_columns columns others ≡ true) × AllByRecursion IsLegalValue row.values
 
 -- the row that an operation of this kind has
 abbrev pub HasLegalRow : Op → List Column → (key : ℕ) → Option Row → Type 0
@@ -46,10 +52,11 @@ HasLegalRow Upd columns key row = IsLegalRow columns key row
 HasLegalRow Put columns key row = IsLegalRow columns key row
 HasLegalRow Del columns key row = row ≡ None
 
--- an operation on a declared table, with the row that it needs
+-- an operation on a declared table, with a key of 64 bits and the row that it needs
 pub record IsLegalOperation (tables : List Schema) (operation : ClientOp) : Type 0 where
   pub some : 1 ≤ operation.table
   pub declared : operation.table ≤ length tables
+  pub key : operation.key < 2 ^ 64
   pub row : HasLegalRow operation.op (columns_at tables operation.table) operation.key operation.row
 
 -- an event that runs, at a site of so many nodes

@@ -16,7 +16,7 @@ use Rattle.rb_top.specs.declared.status.Status.{Status}
 use Rattle.rb_top.specs.declared.status.Status.TheVariants as statuses
 
 -- the first bytes of more
-front_of : (most : ℕ) (bytes more : List ℕ) → length bytes ≤ most → take most (bytes ++ more) ≡ bytes ++ take (most - length bytes) more
+pub front_of : (most : ℕ) (bytes more : List ℕ) → length bytes ≤ most → take most (bytes ++ more) ≡ bytes ++ take (most - length bytes) more
 front_of most bytes more within =
     let whole : length bytes + (most - length bytes) ≡ most = omega arith in
     ap (λ (n : ℕ). take n (bytes ++ more)) (sym whole) ∙ take-append-add bytes more (most - length bytes)

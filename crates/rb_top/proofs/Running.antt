@@ -35,7 +35,7 @@ use Rattle.rb_site.proofs.TakeLaws.{leaves_first}
 use Rattle.rb_site.proofs.StandLaws.{made_is, drawn_is, opened_is}
 use Rattle.rb_top.specs.Run.{IsLogOfScript, HasRoomFor, turn_of, turn_step, joined, told}
 use Rattle.rb_top.specs.declared.play.Turn.{Turn}
-use Rattle.rb_top.proofs.LegalLaws.{operations_fit}
+use Rattle.rb_run_laws.proofs.LegalFits.{operations_fit}
 
 -- a part of some bodies is a part of those that begin with them
 more_of : (first whole : List EpochBody) (file : List ℕ) (fault : SiteFault) → Begins first whole → LeavesLog 0 first file fault → LeavesLog 0 whole file fault

@@ -1,5 +1,5 @@
 -- The text of a log as it is read, piece by piece.
-use Rattle.std.proofs.Common.{◌≡◌, inl, inr, ℕ, ◌+◌, ◌<◌, ◌≤◌, List, [], ◌∷◌, ◌++◌, length, take, refl, sym, ap, subst, ◌∙◌, arith, append_assoc, append-nil, length-append}
+use Rattle.std.proofs.Common.{◌≡◌, inl, inr, ℕ, ◌+◌, ◌-◌, ◌<◌, ◌≤◌, List, [], ◌∷◌, ◌++◌, length, take, refl, sym, ap, subst, ◌∙◌, arith, append_assoc, append-nil, length-append}
 use Rattle.std.specs.Prelude.{Option, Some, None, Result, Ok, Err, IfErr, IsErrOf, OnOk}
 use Rattle.std.specs.Result.{IsErrAnd}
 use Rattle.std.specs.List.{flat_map}
@@ -26,6 +26,7 @@ use Rattle.rb_top.specs.ReadLog.{title_line, step_text, told_steps, told_text_of
 use Rattle.rb_top.specs.Reading.{LeavesReading, read_fault_of, IsFed, HasTakenAll, HasToldSoFar}
 use Rattle.rb_top.specs.declared.fault.ReadLogFault.{ReadLogFault}
 use Rattle.rb_top.specs.declared.fault.ReadLogFault.TheVariants as faults
+use Rattle.rb_top.proofs.ReadLaws.{front_of}
 
 -- the text of more steps
 told_more : (first more : List Step) → told_steps (first ++ more) ≡ told_steps first ++ flat_map step_text more
@@ -69,14 +70,19 @@ told_front bytes more a b front =
     (front_more a b (told_text_of bytes) (flat_map step_text later) front)
 
 -- a part that was read, where nothing of the last line is written
-pub part : (most : ℕ) (lo ln ho hn : Option (List ℕ)) (bytes : List ℕ) → Consumes lo ln bytes → GrowsByPrefix ho hn (told_text_of bytes) → HasReadPart most lo ln ho hn
+part : (most : ℕ) (lo ln ho hn : Option (List ℕ)) (bytes : List ℕ) → Consumes lo ln bytes → GrowsByPrefix ho hn (told_text_of (take most bytes)) → HasReadPart most lo ln ho hn
 unfolding read_text_of
-part most lo ln ho hn bytes read front = record { bytes = bytes; read = read; text = front_more ho hn (told_text_of bytes) _ front; last = inr front }
+part most lo ln ho hn bytes read front = record { bytes = bytes; read = read; text = front_more ho hn (told_text_of (take most bytes)) _ front; last = inr front }
+
+-- the same, where all of it may be read
+part_within : (most : ℕ) (lo ln ho hn : Option (List ℕ)) (bytes : List ℕ) → length bytes ≤ most → Consumes lo ln bytes → GrowsByPrefix ho hn (told_text_of bytes) → HasReadPart most lo ln ho hn
+part_within most lo ln ho hn bytes within read front =
+    part most lo ln ho hn bytes read (subst (λ (b : List ℕ). GrowsByPrefix ho hn (told_text_of b)) (sym (take_all most bytes within)) front)
 
 -- nothing is read, and a front of the title is written
 pub title_part : (most : ℕ) (lo ho hn : Option (List ℕ)) → GrowsByPrefix ho hn title_line → HasReadPart most lo lo ho hn
 unfolding told_steps
-title_part most lo ho hn front = part most lo lo ho hn [] (consumes_none lo) (front_more ho hn title_line _ front)
+title_part most lo ho hn front = part_within most lo lo ho hn [] (omega arith) (consumes_none lo) (front_more ho hn title_line _ front)
 
 -- nothing at all
 pub no_part : (most : ℕ) (lo ho : Option (List ℕ)) → HasReadPart most lo lo ho ho
@@ -104,13 +110,16 @@ sink_leaves most lo ln ho hn outs.NoMemory left = left
 
 -- the read failed
 pub part_unread : (most count : ℕ) (decoder : Decoder) (lo l ln ho hn : Option (List ℕ)) → HasToldSoFar most count decoder lo l ho hn → Keeps l ln → HasReadPart most lo ln ho hn
-part_unread most count decoder lo l ln ho hn told kept = part most lo ln ho hn told.bytes (consumes_kept lo l ln told.bytes told.read kept) (whole_front ho hn (told_text_of told.bytes) told.text)
+part_unread most count decoder lo l ln ho hn told kept =
+    part_within most lo ln ho hn told.bytes (let c = told.count_is in let w = told.within in omega arith) (consumes_kept lo l ln told.bytes told.read kept) (whole_front ho hn (told_text_of told.bytes) told.text)
 
 -- a piece was read, and nothing of it was told
 pub part_untold : (most count : ℕ) (decoder : Decoder) (lo l ln ho hn : Option (List ℕ)) (piece : List ℕ) → HasToldSoFar most count decoder lo l ho hn → Consumes l ln piece → HasReadPart most lo ln ho hn
 part_untold most count decoder lo l ln ho hn piece told read =
+    let within : length told.bytes ≤ most = (let c = told.count_is in let w = told.within in omega arith) in
     part most lo ln ho hn (told.bytes ++ piece) (consumes_more lo l ln told.bytes piece told.read read)
-    (told_front told.bytes piece ho hn (whole_front ho hn (told_text_of told.bytes) told.text))
+    (subst (λ (b : List ℕ). GrowsByPrefix ho hn (told_text_of b)) (sym (front_of most told.bytes piece within))
+    (told_front told.bytes (take (most - length told.bytes) piece) ho hn (whole_front ho hn (told_text_of told.bytes) told.text)))
 
 -- what a decoder does when it is fed a piece and all its steps are taken
 abbrev pub IsFedMore : (before after : Decoder) → (piece : List ℕ) → Type 0
@@ -150,10 +159,13 @@ written most count first last lo l ln ho h hn piece text bad fed more =
 read_piece : (most count : ℕ) (first last : Decoder) (lo l ln ho hn : Option (List ℕ)) (piece text : List ℕ) (bad : Option (ℕ × Field)) (fed : HasFed most count first last lo l ln ho hn piece text bad) → Consumes lo ln (fed.told.bytes ++ piece)
 read_piece most count first last lo l ln ho hn piece text bad fed = consumes_more lo l ln fed.told.bytes piece fed.told.read fed.read
 
+fed_within : (most count : ℕ) (first last : Decoder) (lo l ln ho hn : Option (List ℕ)) (piece text : List ℕ) (bad : Option (ℕ × Field)) (fed : HasFed most count first last lo l ln ho hn piece text bad) → length (fed.told.bytes ++ piece) ≤ most
+fed_within most count first last lo l ln ho hn piece text bad fed = let l = length-append fed.told.bytes piece in let c = fed.told.count_is in let w = fed.within in omega arith
+
 -- or not
 pub part_written : (most count : ℕ) (first last : Decoder) (lo l ln ho h hn : Option (List ℕ)) (piece text : List ℕ) (bad : Option (ℕ × Field)) → HasFed most count first last lo l ln ho h piece text bad → GrowsByPrefix h hn text → HasReadPart most lo ln ho hn
 part_written most count first last lo l ln ho h hn piece text bad fed front =
-    part most lo ln ho hn (fed.told.bytes ++ piece) (read_piece most count first last lo l ln ho h piece text bad fed)
+    part_within most lo ln ho hn (fed.told.bytes ++ piece) (fed_within most count first last lo l ln ho h piece text bad fed) (read_piece most count first last lo l ln ho h piece text bad fed)
     (subst (λ (t : List ℕ). GrowsByPrefix ho hn t) (sym (told_piece most count first last lo l ln ho h piece text bad fed)) (front_behind ho h hn (told_text_of fed.told.bytes) text fed.told.text front))
 
 -- all is told, and no event is bad
@@ -182,7 +194,7 @@ within_limit most bytes bad within is =
 pub met_bad : (most count : ℕ) (first last : Decoder) (lo l ln ho h hn : Option (List ℕ)) (piece text : List ℕ) (at : ℕ) (field : Field) → HasFed most count first last lo l ln ho h piece text (Some (at, field)) → Appends h hn text → HasMetBadEvent most at field lo ln ho hn
 met_bad most count first last lo l ln ho h hn piece text at field fed more =
     let bytes = fed.told.bytes ++ piece in
-    let within : length bytes ≤ most = (let l = length-append fed.told.bytes piece in let c = fed.told.count_is in let w = fed.within in omega arith) in
+    let within : length bytes ≤ most = fed_within most count first last lo l ln ho h piece text (Some (at, field)) fed in
     record {
       bytes = bytes;
       read = read_piece most count first last lo l ln ho h piece text (Some (at, field)) fed;
@@ -220,12 +232,15 @@ told_whole most count decoder lo l ln ho h hn rest told read end is more = recor
 pub part_whole : (most count : ℕ) (decoder : Decoder) (lo l ln ho h hn : Option (List ℕ)) (rest : ℕ) → HasToldSoFar most count decoder lo l ho h → Consumes l ln [] → IsAtEnd ln →
     ((position : ℕ) (bytes : List ℕ) (passed : List Known) → StandsFor decoder position bytes passed → rest ≡ rest_behind position bytes passed) → GrowsByPrefix h hn (rest_line rest ++ 10 ∷ []) → HasReadPart most lo ln ho hn
 unfolding read_text_of
-part_whole most count decoder lo l ln ho h hn rest told read end is front = record {
-  bytes = told.bytes;
-  read = subst (λ (b : List ℕ). Consumes lo ln b) (append-nil told.bytes) (consumes_more lo l ln told.bytes [] told.read read);
-  text = subst (λ (n : ℕ). GrowsByPrefix ho hn (told_text_of told.bytes ++ (rest_line n ++ 10 ∷ []))) (is 0 told.bytes (seen_of 0 told.bytes).known told.stands) (front_behind ho h hn (told_text_of told.bytes) (rest_line rest ++ 10 ∷ []) told.text front);
-  last = inl (end, within_limit most told.bytes None (let c = told.count_is in let w = told.within in omega arith) told.sound);
-}
+part_whole most count decoder lo l ln ho h hn rest told read end is front =
+    let within : length told.bytes ≤ most = (let c = told.count_is in let w = told.within in omega arith) in record {
+      bytes = told.bytes;
+      read = subst (λ (b : List ℕ). Consumes lo ln b) (append-nil told.bytes) (consumes_more lo l ln told.bytes [] told.read read);
+      text = subst (λ (b : List ℕ). GrowsByPrefix ho hn (read_text_of b)) (sym (take_all most told.bytes within))
+          (subst (λ (n : ℕ). GrowsByPrefix ho hn (told_text_of told.bytes ++ (rest_line n ++ 10 ∷ []))) (is 0 told.bytes (seen_of 0 told.bytes).known told.stands)
+          (front_behind ho h hn (told_text_of told.bytes) (rest_line rest ++ 10 ∷ []) told.text front));
+      last = inl (end, within_limit most told.bytes None within told.sound);
+    }
 
 -- the same count in other words
 pub recounted : (most count other : ℕ) (decoder : Decoder) (lo ln ho hn : Option (List ℕ)) → HasToldSoFar most count decoder lo ln ho hn → count ≡ other → HasToldSoFar most other decoder lo ln ho hn

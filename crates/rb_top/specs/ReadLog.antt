@@ -63,10 +63,10 @@ pub record HasMetBadEvent (most : ℕ) (position : ℕ) (field : Field) (left_ol
   pub bad : bad_within most bytes ≡ Some (position, field)
   pub text : Appends held_old held_new (told_text_of (take most bytes))
 
--- the reading of a log was given up: the sink grew by a front of the text of what was read, and the last line was begun only where the
--- log was read to its end and has no bad event
+-- the reading of a log was given up: the sink grew by a front of the text of what was read, as far as that may be read, and the last
+-- line was begun only where the log was read to its end and has no bad event
 pub record HasReadPart (most : ℕ) (left_old left_new held_old held_new : Option (List ℕ)) : Type 0 where
   pub bytes : List ℕ
   pub read : Consumes left_old left_new bytes
-  pub text : GrowsByPrefix held_old held_new (read_text_of bytes)
-  pub last : (IsAtEnd left_new × (bad_within most bytes ≡ None)) ⊎ GrowsByPrefix held_old held_new (told_text_of bytes)
+  pub text : GrowsByPrefix held_old held_new (read_text_of (take most bytes))
+  pub last : (IsAtEnd left_new × (bad_within most bytes ≡ None)) ⊎ GrowsByPrefix held_old held_new (told_text_of (take most bytes))

@@ -1,0 +1,30 @@
+ghost use Rattle.std.specs.Prelude.{◌≡◌, ◌<◌, ◌^◌, ℕ, List, length, All, Ok};
+ghost use Rattle.rb_base.specs.declared.site.SiteId.{SiteId};
+ghost use Rattle.rb_base.specs.declared.site.SiteId.TheVariants.{A};
+ghost use Rattle.rb_base.specs.declared.body.EpochBody.{EpochBody};
+ghost use Rattle.rb_log_defs.specs.File.{binlog_files};
+ghost use Rattle.rb_text_defs.specs.declared.script.Script.{Script};
+ghost use Rattle.rb_text_defs.specs.Script.{script_of};
+ghost use Rattle.rb_text_defs.specs.Legal.{IsLegal};
+ghost use Rattle.rb_play_defs.specs.Play.{log_of, files_of};
+ghost use Rattle.rb_read_defs.specs.Readable.{IsReadable};
+ghost use Rattle.rb_run_laws.specs.Files.{AreReadAs};
+
+/// Each epoch that a run writes can be read back: its numbers have room in the fields of the log, its tables are those that its
+/// changes name, in the order of their ids, its changes fit these tables and have the key of their rows, and no event is longer than
+/// a reader accepts. This holds of each script that keeps to the limits, and so of each text that is read as a script.
+pub fn written_epochs_are_readable()
+    ensures legal { (script : Script) → IsLegal script → All IsReadable (log_of script) }
+    ensures read { (bytes : List ℕ) (script : Script) → script_of bytes ≡ Ok script → All IsReadable (log_of script) }
+{}
+
+/// A log of readable epochs is read back as it was written, whatever the length is from which its files are rotated: each file to its
+/// end, without a bad event, as its format, its epochs and, but for the last file, a rotation to the next one; and the epochs of all
+/// files are those that were written, in order. Positions in a file have 32 bits, so each file is to be shorter than that, and there
+/// are to be fewer epochs than 2^32. The log of each script's run is such a log: its files are short enough.
+pub fn a_written_log_is_read_back()
+    ensures files { (site : SiteId) (limit : ℕ) (bodies : List EpochBody) → All IsReadable bodies → length bodies < 2 ^ 32 → All (λ file. length file < 2 ^ 32) (binlog_files site limit bodies) →
+        AreReadAs site 1 bodies (binlog_files site limit bodies) }
+    ensures legal { (script : Script) → IsLegal script → AreReadAs A 1 (log_of script) (files_of script) }
+    ensures read { (bytes : List ℕ) (script : Script) → script_of bytes ≡ Ok script → AreReadAs A 1 (log_of script) (files_of script) }
+{}
