@@ -1,0 +1,30 @@
+-- What the binlog files of a site stand for.
+use Rattle.std.specs.Prelude.{◌≡◌, ℕ, ◌+◌, ◌-◌, ◌^◌, ◌<◌, List, [], ◌∷◌, ◌++◌, length}
+use Rattle.rb_base.specs.declared.site.SiteId.{SiteId}
+use Rattle.rb_log_defs.specs.File.{Binlog}
+use Rattle.rb_device_defs.specs.Files.{HoldsFiles}
+use Rattle.rb_binlog.specs.declared.binlog.BinlogFiles.{BinlogFiles}
+
+-- the number of the last file
+abbrev pub number_of : BinlogFiles → ℕ
+number_of files = files.number
+
+-- its length
+abbrev pub length_of : BinlogFiles → ℕ
+length_of files = files.length
+
+-- the files of a binlog, file 1 first
+abbrev pub files_in : Binlog → List (List ℕ)
+files_in log = log.closed ++ log.last ∷ []
+
+-- the files of this site stand for a binlog, over a device that reads as it
+pub record StandsFor (files : BinlogFiles) (site : SiteId) (log : Binlog) (seen : ℕ → List ℕ) : Type 0 where
+  pub site_is : files.site ≡ site
+  pub number_is : files.number ≡ length log.closed + 1
+  pub few : files.number < 2 ^ 32 - 1
+  pub length_is : files.length ≡ length log.last
+  pub held : HoldsFiles (files_in log) seen
+
+-- they stand for some binlog
+abbrev pub Stands : BinlogFiles → (seen : ℕ → List ℕ) → Type 0
+Stands files seen = (site : SiteId) × (log : Binlog) × StandsFor files site log seen
