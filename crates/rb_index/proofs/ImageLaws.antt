@@ -1,8 +1,8 @@
 -- What each call on the device makes of file 0.
-use Rattle.std.proofs.Common.{◌≡◌, ◌≢◌, ◌⊎◌, inl, inr, ℕ, suc, ◌+◌, ◌*◌, ◌<◌, ◌≤◌, Bool, true, false, List, [], ◌∷◌, ◌++◌, length, take, drop, get_or, refl, sym, ap, subst, ◌∙◌, arith, append_assoc}
-use Rattle.std.specs.Prelude.{◌==◌, ◌&&◌, nat_lt, Result, Ok, Err, OnErr, IsErrOf}
+use Rattle.std.proofs.Common.{◌≡◌, ◌≢◌, ◌⊎◌, inl, inr, ℕ, ◌+◌, ◌*◌, ◌<◌, ◌≤◌, true, false, List, [], ◌∷◌, ◌++◌, length, take, drop, get_or, refl, sym, ap, subst, ◌∙◌, arith, append_assoc}
+use Rattle.std.specs.Prelude.{◌==◌, nat_lt, Result, Ok, Err, OnErr, IsErrOf}
 use Rattle.std.proofs.lemmas.Bool.{eqb-true, le-ltb, ltb-false, and_left, and_right, and_cases, cases_Bool}
-use Rattle.std.proofs.lemmas.List.{append-nil, length-append, length-drop, length-take-le, take-append-drop, take_at, drop_at, take-take, take_all, drop_all, get_or-take, get_or-drop, get_or_at, drop_more, flat_map_more}
+use Rattle.std.proofs.lemmas.List.{append-nil, length-append, length-drop, length-take-le, take-append-drop, take_at, drop_at, take-take, take_all, drop_all, get_or-take, get_or-drop, drop_more, flat_map_more}
 use Rattle.rb_base.specs.declared.body.IndexRow.{IndexRow}
 use Rattle.rb_base.specs.declared.faults.OutFault.{OutFault}
 use Rattle.rb_base.specs.declared.faults.OutFault.TheVariants as outs
@@ -35,15 +35,15 @@ open_push rows row = sym (flat_map_more (λ (row : IndexRow). 1 ∷ index_record
 closed_ends : (xs : List ℕ) → get_or xs 0 0 ≡ 0 → begins_with_record xs ≡ false
 closed_ends xs closed = and_left _ _ (ap (λ (gate : ℕ). gate == 1) closed)
 
-short_ends : (xs : List ℕ) → length xs ≤ 65 → begins_with_record xs ≡ false
+pub short_ends : (xs : List ℕ) → length xs ≤ 65 → begins_with_record xs ≡ false
 short_ends xs short = and_right _ _ (le-ltb 65 (length xs) short)
 
 -- nor where none began before, and the gate is the same and there are no more bytes
 still_ends : (xs ys : List ℕ) → get_or ys 0 0 ≡ get_or xs 0 0 → length ys ≤ length xs → begins_with_record xs ≡ false → begins_with_record ys ≡ false
 still_ends xs ys same short ended = by_part (and_cases (get_or xs 0 0 == 1) (nat_lt 65 (length xs)) ended) where
-    by_part : (get_or xs 0 0 == 1 ≡ false) ⊎ (nat_lt 65 (length xs) ≡ false) → begins_with_record ys ≡ false
-    by_part (inl gate) = and_left _ _ (ap (λ (gate : ℕ). gate == 1) same ∙ gate)
-    by_part (inr size) = short_ends ys (let few : length xs ≤ 65 = ltb-false 65 (length xs) size in omega arith)
+  by_part : (get_or xs 0 0 == 1 ≡ false) ⊎ (nat_lt 65 (length xs) ≡ false) → begins_with_record ys ≡ false
+  by_part (inl gate) = and_left _ _ (ap (λ (gate : ℕ). gate == 1) same ∙ gate)
+  by_part (inr size) = short_ends ys (let few : length xs ≤ 65 = ltb-false 65 (length xs) size in omega arith)
 
 -- where the bytes before the last gate are as they were, the rows are too, if no record that is taken begins there
 pub same_front : (rows : List IndexRow) (gate : ℕ) (file new : List ℕ) → length (open_records rows) ≡ gate → IsIndexImage rows file → take gate new ≡ take gate file → (rows ≢ [] → gate < length new) → begins_with_record (drop gate new) ≡ false
@@ -79,15 +79,15 @@ whole_size rows file is = ap length is ∙ length-append (open_records rows) (0 
 gate_kept : (gate : ℕ) (file new : List ℕ) → take (gate + 1) new ≡ take (gate + 1) file → get_or (drop gate new) 0 0 ≡ get_or (drop gate file) 0 0
 gate_kept gate file new same =
     gate_of new ∙ ap (λ (xs : List ℕ). get_or xs gate 0) same ∙ sym (gate_of file) where
-    gate_of : (xs : List ℕ) → get_or (drop gate xs) 0 0 ≡ get_or (take (gate + 1) xs) gate 0
-    gate_of xs =
-        let here : gate + 0 ≡ gate = omega arith in
-        get_or-drop gate xs 0 0 ∙ ap (λ (i : ℕ). get_or xs i 0) here ∙ sym (get_or-take (gate + 1) xs gate 0 (omega arith))
+      gate_of : (xs : List ℕ) → get_or (drop gate xs) 0 0 ≡ get_or (take (gate + 1) xs) gate 0
+      gate_of xs =
+          let here : gate + 0 ≡ gate = omega arith in
+          get_or-drop gate xs 0 0 ∙ ap (λ (i : ℕ). get_or xs i 0) here ∙ sym (get_or-take (gate + 1) xs gate 0 (omega arith))
 
 front_kept : (gate : ℕ) (file new : List ℕ) → take (gate + 1) new ≡ take (gate + 1) file → take gate new ≡ take gate file
 front_kept gate file new same = front_of new ∙ ap (take gate) same ∙ sym (front_of file) where
-    front_of : (xs : List ℕ) → take gate xs ≡ take gate (take (gate + 1) xs)
-    front_of xs = sym (take-take gate (gate + 1) xs (omega arith))
+  front_of : (xs : List ℕ) → take gate xs ≡ take gate (take (gate + 1) xs)
+  front_of xs = sym (take-take gate (gate + 1) xs (omega arith))
 
 -- a record that was torn as it was written behind the last gate
 pub record_torn : (rows : List IndexRow) (at count : ℕ) (file new : List ℕ) → at ≡ length file → file ≡ index_file rows → Torn at count file new → IsIndexImage rows new
@@ -121,29 +121,32 @@ added rows row new is =
 pub gate_torn : (rows : List IndexRow) (row : IndexRow) (gate : ℕ) (file new : List ℕ) → length (open_records rows) ≡ gate → file ≡ open_records rows ++ 0 ∷ (index_record row ++ 0 ∷ []) → Torn gate 1 file new
     → IsIndexImage rows new ⊎ IsIndexImage (rows ++ row ∷ []) new
 gate_torn rows row gate file new is written torn = by_gate (cases_Bool (byte == 1)) where
-    behind : List ℕ
-    behind = index_record row ++ 0 ∷ []
-    byte : ℕ
-    byte = get_or new gate 0
-    same : new ≡ open_records rows ++ byte ∷ behind
-    same =
-        let size : length file ≡ gate + (1 + length behind) = omega (arith, ap length written, length-append (open_records rows) (0 ∷ behind)) in
-        let longer = torn.no_shorter in
-        let front : take gate new ≡ open_records rows = torn.before ∙ ap (take gate) written ∙ take_at (open_records rows) (0 ∷ behind) gate is in
-        let rest : drop (gate + 1) new ≡ behind = torn.after ∙ ap (drop (gate + 1)) (written ∙ sym (append_assoc (open_records rows) (0 ∷ []) behind))
-            ∙ drop_at (open_records rows ++ 0 ∷ []) behind (gate + 1) (omega (arith, length-append (open_records rows) (0 ∷ []))) in
-        sym (take-append-drop gate new) ∙ ap (λ (xs : List ℕ). xs ++ drop gate new) front
-        ∙ ap (λ (xs : List ℕ). open_records rows ++ xs) (drop_more new gate 0 (omega arith) ∙ ap (λ (xs : List ℕ). byte ∷ xs) rest)
-    by_gate : (byte == 1 ≡ true) ⊎ (byte == 1 ≡ false) → IsIndexImage rows new ⊎ IsIndexImage (rows ++ row ∷ []) new
-    by_gate (inl opened) =
-        let whole : new ≡ open_records rows ++ 1 ∷ behind = same ∙ ap (λ (gate : ℕ). open_records rows ++ gate ∷ behind) (eqb-true byte 1 opened) in
-        inr (whole_image (rows ++ row ∷ []) new (added rows row new whole))
-    by_gate (inr closed) = inl (record {
-      behind = byte ∷ behind;
-      bytes = same;
-      more = λ _. omega arith;
-      ended = and_left _ _ closed;
-    })
+  behind : List ℕ
+  behind = index_record row ++ 0 ∷ []
+
+  byte : ℕ
+  byte = get_or new gate 0
+
+  same : new ≡ open_records rows ++ byte ∷ behind
+  same =
+      let size : length file ≡ gate + (1 + length behind) = omega (arith, ap length written, length-append (open_records rows) (0 ∷ behind)) in
+      let longer = torn.no_shorter in
+      let front : take gate new ≡ open_records rows = torn.before ∙ ap (take gate) written ∙ take_at (open_records rows) (0 ∷ behind) gate is in
+      let rest : drop (gate + 1) new ≡ behind = torn.after ∙ ap (drop (gate + 1)) (written ∙ sym (append_assoc (open_records rows) (0 ∷ []) behind))
+      ∙ drop_at (open_records rows ++ 0 ∷ []) behind (gate + 1) (omega (arith, length-append (open_records rows) (0 ∷ []))) in
+      sym (take-append-drop gate new) ∙ ap (λ (xs : List ℕ). xs ++ drop gate new) front
+      ∙ ap (λ (xs : List ℕ). open_records rows ++ xs) (drop_more new gate 0 (omega arith) ∙ ap (λ (xs : List ℕ). byte ∷ xs) rest)
+
+  by_gate : (byte == 1 ≡ true) ⊎ (byte == 1 ≡ false) → IsIndexImage rows new ⊎ IsIndexImage (rows ++ row ∷ []) new
+  by_gate (inl opened) =
+      let whole : new ≡ open_records rows ++ 1 ∷ behind = same ∙ ap (λ (gate : ℕ). open_records rows ++ gate ∷ behind) (eqb-true byte 1 opened) in
+      inr (whole_image (rows ++ row ∷ []) new (added rows row new whole))
+  by_gate (inr closed) = inl (record {
+    behind = byte ∷ behind;
+    bytes = same;
+    more = λ _. omega arith;
+    ended = and_left _ _ closed;
+  })
 
 -- the gate was opened
 pub gate_opened : (rows : List IndexRow) (row : IndexRow) (gate : ℕ) (file new : List ℕ) → length (open_records rows) ≡ gate → file ≡ open_records rows ++ 0 ∷ (index_record row ++ 0 ∷ []) → Holds file gate (1 ∷ []) new
@@ -152,7 +155,7 @@ gate_opened rows row gate file new is written held =
     let behind = index_record row ++ 0 ∷ [] in
     let front : take gate file ≡ open_records rows = ap (take gate) written ∙ take_at (open_records rows) (0 ∷ behind) gate is in
     let rest : drop (gate + 1) file ≡ behind = ap (drop (gate + 1)) (written ∙ sym (append_assoc (open_records rows) (0 ∷ []) behind))
-        ∙ drop_at (open_records rows ++ 0 ∷ []) behind (gate + 1) (omega (arith, length-append (open_records rows) (0 ∷ []))) in
+    ∙ drop_at (open_records rows ++ 0 ∷ []) behind (gate + 1) (omega (arith, length-append (open_records rows) (0 ∷ []))) in
     added rows row new (held ∙ ap (λ (xs : List ℕ). xs ++ 1 ∷ drop (gate + 1) file) front ∙ ap (λ (xs : List ℕ). open_records rows ++ 1 ∷ xs) rest)
 
 -- the size of what may be found

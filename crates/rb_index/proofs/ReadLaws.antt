@@ -1,5 +1,5 @@
 -- What is taken from file 0, and one record read back.
-use Rattle.std.proofs.Common.{◌≡◌, ◌≢◌, ℕ, suc, ◌+◌, ◌-◌, ◌*◌, ◌<◌, ◌≤◌, ◌^◌, Bool, true, false, List, [], ◌∷◌, ◌++◌, length, take, drop, get_or, refl, sym, ap, subst, ◌∙◌, arith, append_assoc}
+use Rattle.std.proofs.Common.{◌≡◌, ℕ, ◌+◌, ◌-◌, ◌*◌, ◌<◌, ◌≤◌, ◌^◌, true, false, List, [], ◌∷◌, ◌++◌, length, take, drop, get_or, refl, sym, ap, subst, ◌∙◌, arith, append_assoc}
 use Rattle.std.specs.Prelude.{◌==◌, nat_lt, All, slice_range}
 use Rattle.std.proofs.lemmas.Bool.{true≢false, lt-ltb, and_parts, ltb-true}
 use Rattle.std.proofs.lemmas.List.{append-nil, length-append, length-drop, length_push, drop_at, drop-drop, get_or_at, take_rest, take_all, drop_all}
@@ -44,8 +44,8 @@ no_row (row ∷ left) bytes image ended =
     let size : 65 < length bytes = omega (arith, ap length image.bytes, length-append (open_records (row ∷ left)) image.behind, length_open (row ∷ left)) in
     let gate : get_or bytes 0 0 ≡ 1 = ap (λ (xs : List ℕ). get_or xs 0 0) image.bytes in
     absurd (true≢false (sym (begins gate size) ∙ ended)) where
-    begins : get_or bytes 0 0 ≡ 1 → 65 < length bytes → begins_with_record bytes ≡ true
-    begins gate size = rw gate (lt-ltb 65 (length bytes) size)
+      begins : get_or bytes 0 0 ≡ 1 → 65 < length bytes → begins_with_record bytes ≡ true
+      begins gate size = rw gate (lt-ltb 65 (length bytes) size)
 
 -- the rows so far, and those that are left in the bytes from here on
 pub record IsSplit (rows taken : List IndexRow) (rest : List ℕ) : Type 0 where
@@ -79,19 +79,19 @@ one_taken bytes taken place read so_far begins reads = record {
   within = let far : 65 < length (drop place bytes) = ltb-true 65 (length (drop place bytes)) (and_parts (get_or (drop place bytes) 0 0 == 1) (nat_lt 65 (length (drop place bytes))) begins).1 in omega (arith, length-drop place bytes);
   split = λ rows image. split_more rows (so_far.split rows image);
 } where
-    split_more : (rows : List IndexRow) → IsSplit rows taken (drop place bytes) → IsSplit rows (taken ++ read ∷ []) (drop (place + 65) bytes)
-    split_more rows split =
-        let next = next_row split.left (drop place bytes) split.image begins in
-        let head : drop (place + 1) bytes ≡ index_record next.row ++ drop 65 (drop place bytes) = sym (drop-drop 1 place bytes) ∙ next.head in
-        record {
-          left = next.left;
-          count = let count = split.count in omega (arith, length_push taken read, ap length next.split);
-          image = subst (IsIndexImage next.left) (drop-drop 65 place bytes) next.image;
-          same = λ all.
-              let whole : rows ≡ taken ++ next.row ∷ next.left = split.same all ∙ ap (λ (xs : List IndexRow). taken ++ xs) next.split in
-              let back : read ≡ next.row = reads next.row (drop 65 (drop place bytes)) (room_at rows taken next.left next.row all whole) head in
-              whole ∙ ap (λ (row : IndexRow). taken ++ row ∷ next.left) (sym back) ∙ sym (append_assoc taken (read ∷ []) next.left);
-        }
+  split_more : (rows : List IndexRow) → IsSplit rows taken (drop place bytes) → IsSplit rows (taken ++ read ∷ []) (drop (place + 65) bytes)
+  split_more rows split =
+      let next = next_row split.left (drop place bytes) split.image begins in
+      let head : drop (place + 1) bytes ≡ index_record next.row ++ drop 65 (drop place bytes) = sym (drop-drop 1 place bytes) ∙ next.head in
+      record {
+        left = next.left;
+        count = let count = split.count in omega (arith, length_push taken read, ap length next.split);
+        image = subst (IsIndexImage next.left) (drop-drop 65 place bytes) next.image;
+        same = λ all.
+            let whole : rows ≡ taken ++ next.row ∷ next.left = split.same all ∙ ap (λ (xs : List IndexRow). taken ++ xs) next.split in
+            let back : read ≡ next.row = reads next.row (drop 65 (drop place bytes)) (room_at rows taken next.left next.row all whole) head in
+            whole ∙ ap (λ (row : IndexRow). taken ++ row ∷ next.left) (sym back) ∙ sym (append_assoc taken (read ∷ []) next.left);
+      }
 
 -- no more can be taken
 pub all_taken : (bytes : List ℕ) (taken : List IndexRow) (place : ℕ) → IsTaken bytes taken place → begins_with_record (drop place bytes) ≡ false → (rows : List IndexRow) → IsIndexImage rows bytes → length taken ≡ length rows
@@ -139,8 +139,20 @@ pub record AreRead (bytes : List ℕ) (read : IndexRow) : Type 0 where
 -- a row of the same numbers
 same_row : (b : IndexRow) (epoch orig_epoch position next_position file next_file inserts updates deletes schemaops orig_server_id gci : ℕ) → epoch ≡ b.epoch.0 → orig_epoch ≡ b.orig_epoch.0 → position ≡ b.position → next_position ≡ b.next_position → file ≡ b.file → next_file ≡ b.next_file
     → inserts ≡ b.inserts → updates ≡ b.updates → deletes ≡ b.deletes → schemaops ≡ b.schemaops → orig_server_id ≡ b.orig_server_id → gci ≡ b.gci
-    → ◌≡◌ {A = IndexRow} (record { epoch = record { 0 = epoch }; orig_epoch = record { 0 = orig_epoch }; position = position; next_position = next_position; file = file; next_file = next_file;
-        inserts = inserts; updates = updates; deletes = deletes; schemaops = schemaops; orig_server_id = orig_server_id; gci = gci }) b
+    → ◌≡◌ {A = IndexRow} (record {
+      epoch = record { 0 = epoch };
+      orig_epoch = record { 0 = orig_epoch };
+      position = position;
+      next_position = next_position;
+      file = file;
+      next_file = next_file;
+      inserts = inserts;
+      updates = updates;
+      deletes = deletes;
+      schemaops = schemaops;
+      orig_server_id = orig_server_id;
+      gci = gci;
+    }) b
 same_row b epoch orig_epoch position next_position file next_file inserts updates deletes schemaops orig_server_id gci e1 e2 e3 e4 e5 e6 e7 e8 e9 e10 e11 e12 = rw (e1, e2, e3, e4, e5, e6, e7, e8, e9, e10, e11, e12) refl
 
 -- a record is read back

@@ -54,7 +54,11 @@ impl EpochIndex {
 
     /// Appends a row, whose epoch is at or above that of the last one: its record and the closed gate of the next one are written
     /// and synced, and then its gate is opened, and synced. At a fault the device has the index as it was, or with the row.
-    pub fn append_row<D: LogDisk>(&mut self, row: IndexRow, disk: &mut D) -> Result<(), DiskLogFault>
+    pub fn append_row<D: LogDisk>(
+        &mut self,
+        row: IndexRow,
+        disk: &mut D,
+    ) -> Result<(), DiskLogFault>
         requires held { D.seen disk.old 0 ≡ index_file self.old }
         requires later { last_epoch_of self.old ≤ row.epoch.0 }
         ensures appended { OnOk result ((self.new ≡ self.old ++ row ∷ []) × (D.seen disk.new 0 ≡ index_file self.new)) }

@@ -10,3 +10,5 @@ mod record;
 
 pub use index::EpochIndex;
 
+#[cfg(test)]
+mod tests;

@@ -1,4 +1,4 @@
-use Rattle.std.proofs.Common.{◌∙◌, ◌≡◌, subst, sym}
+use Rattle.std.proofs.Common.{◌∙◌, subst, sym}
 use Rattle.rb_device_defs.specs.Index.{IsIndexImage}
 use Rattle.rb_index.proofs.ImageLaws.{at_an_error, by_fault, close_torn, gate_closed}
 use Rattle.rb_index.proofs.index.close_gate.Goals as goal

@@ -1,4 +1,4 @@
-use Rattle.std.proofs.Common.{◌∙◌, ◌≡◌, ◌+◌, ◌≤◌, length, subst, sym, arith}
+use Rattle.std.proofs.Common.{◌∙◌, subst, sym, arith}
 use Rattle.rb_device_defs.specs.Index.{IsIndexImage}
 use Rattle.rb_index.proofs.ImageLaws.{by_fault, cut_short, cut_off}
 use Rattle.rb_index.proofs.index.cut_behind.Goals as goal

@@ -1,4 +1,4 @@
-use Rattle.std.proofs.Common.{◌∙◌, ◌≡◌, leb, ap, take, sym, subst, arith, rules, Some, None, List}
+use Rattle.std.proofs.Common.{◌∙◌, ◌≡◌, leb, ap, take, sym, subst, rules, Some, None, List}
 use Rattle.std.proofs.lemmas.List.Sorted.{IsPartitionPoint-from_clause, IsPartitionedBy-leb}
 use Rattle.rb_base.specs.declared.body.IndexRow.{IndexRow}
 use Rattle.rb_log_defs.specs.Index.{position_after}

@@ -1,6 +1,4 @@
-use Rattle.std.proofs.Common.{◌≡◌, ◌∙◌, ◌+◌, ◌*◌, ℕ, length, arith, subst, sym}
-use Rattle.std.specs.Prelude.{List}
-use Rattle.rb_base.specs.declared.body.IndexRow.{IndexRow}
+use Rattle.std.proofs.Common.{◌≡◌, ◌*◌, length, arith, subst, sym}
 use Rattle.rb_device_defs.specs.Index.{IsIndexImage, open_records}
 use Rattle.rb_index.proofs.ImageLaws.{at_an_error, length_open}
 use Rattle.rb_index.proofs.index.EpochIndex.recover.Goals as goal
