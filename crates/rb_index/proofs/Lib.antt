@@ -1,0 +1,4 @@
+pub mod ImageLaws
+pub mod ReadLaws
+pub mod SearchLaws
+pub mod TestLaws
