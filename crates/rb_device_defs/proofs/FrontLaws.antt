@@ -1,8 +1,8 @@
 -- The front of a binlog's files, up to the end of its last epoch.
 use Rattle.std.proofs.Common.{◌≡◌, ℕ, ◌+◌, ◌-◌, ◌<◌, ◌≤◌, List, [], ◌∷◌, ◌++◌, length, take, refl, ap, sym, ◌∙◌, arith, length-append}
 use Rattle.std.proofs.lemmas.List.{take-append-le, get_or_append_left, get_or-append-add}
-use Rattle.std.specs.Prelude.{Bool, true, false, nat_le, if◌then◌else◌, Option, Some}
-use Rattle.std.specs.List.{last_or}
+use Rattle.std.specs.Prelude.{Bool, true, false, nat_le, if◌then◌else◌, Option, Some, None}
+use Rattle.std.specs.List.{last_or, slice_get}
 use Rattle.rb_base.specs.Site.{server_of}
 use Rattle.rb_base.specs.declared.site.SiteId.{SiteId}
 use Rattle.rb_log_defs.specs.Event.{rotate_event}
@@ -82,3 +82,12 @@ to_end_of_longer log bytes seen held =
     ∙ take-append-le (length log.last) log.last bytes (omega arith)
     ∙ ap (take (length log.last)) (sym (behind_front log.closed log.last [])))
     (front_of_all _ _ (log.closed ++ (log.last ++ bytes) ∷ []) seen (omega arith) held)
+
+-- the last of some items, by its place
+last_from : {X : Type 0} (x : X) (xs : List X) → slice_get (x ∷ xs) (length xs) ≡ last_or (Some x) xs
+last_from x [] = refl
+last_from x (y ∷ ys) = last_from y ys
+
+pub last_got : {X : Type 0} (xs : List X) → slice_get xs (length xs - 1) ≡ last_or None xs
+last_got [] = refl
+last_got (x ∷ xs) = let e : length (x ∷ xs) - 1 ≡ length xs = omega arith in rw e (last_from x xs)
