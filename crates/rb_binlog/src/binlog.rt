@@ -82,6 +82,7 @@ impl BinlogFiles {
             HoldsFront (number_of self.old) (length_of self.old) (files_in log) (D.seen disk.new)) }
         ensures stays { OnErr result (self.new ≡ self.old) }
         ensures before { (other : ℕ) → other < number_of self.old → D.seen disk.new other ≡ D.seen disk.old other }
+        ensures later { (other : ℕ) → number_of self.old + 1 < other → D.seen disk.new other ≡ D.seen disk.old other }
         ensures cause { HasDiskCause (D.fault_count disk.old) (D.fault_count disk.new) result }
     {
         if u64::from(self.length) < limit {
@@ -117,8 +118,8 @@ impl BinlogFiles {
         Ok(bytes)
     }
 
-    /// Cuts a file to a length and all later ones to nothing, and syncs them: the binlog then ends there. At a fault what stands
-    /// before that place is as it was.
+    /// Cuts a file to a length, in bytes, and all later ones to nothing, and syncs them: the binlog then ends there. At a fault, also
+    /// where memory runs out, what stands before that place is as it was, and the bytes behind it may be gone or not.
     pub fn cut_to<D: LogDisk>(
         alloc: Global,
         site: SiteId,

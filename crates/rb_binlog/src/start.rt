@@ -31,7 +31,7 @@ pub(crate) fn begin_file<D: LogDisk>(
 ) -> Result<u32, DiskLogFault>
     requires empty { D.seen disk.old file ≡ [] }
     requires number { file < 2 ^ 32 - 1 }
-    ensures begun { IfOk result (λ length. D.seen disk.new file ≡ file_start site) }
+    ensures begun { IfOk result (λ _. D.seen disk.new file ≡ file_start site) }
     ensures size { IfOk result (λ end. end ≡ length (file_start site)) }
     ensures others { (other : ℕ) → other ≢ file → D.seen disk.new other ≡ D.seen disk.old other }
     ensures cause { HasDiskCause (D.fault_count disk.old) (D.fault_count disk.new) result }

@@ -93,19 +93,14 @@ fn failing_at(alloc: Global, call: u64) -> Result<FailingDisk, Fail>
 #[test]
 fn a_rotation_fails_midway(rt: HostRuntime) -> Result<(), Fail> {
     let alloc = rt.alloc();
-    let mut disk = failing_at(alloc, 5)?;
-    assert_eq!(rt;
-        rotate_filled(alloc, 683, &mut disk),
-        Err(DiskLogFault::DiskFault)
-    );
-    assert_eq!(rt; (disk.len(1), disk.len(2), disk.faults()), (722, 0, 1));
-
-    let mut disk = failing_at(alloc, 6)?;
-    assert_eq!(rt;
-        rotate_filled(alloc, 683, &mut disk),
-        Err(DiskLogFault::DiskFault)
-    );
-    assert_eq!(rt; (disk.len(1), disk.len(2), disk.faults()), (722, 0, 1));
+    for call in [5, 6] {
+        let mut disk = failing_at(alloc, call)?;
+        assert_eq!(rt;
+            rotate_filled(alloc, 683, &mut disk),
+            Err(DiskLogFault::DiskFault)
+        );
+        assert_eq!(rt; (disk.len(1), disk.len(2), disk.faults()), (722, 0, 1));
+    }
     Ok(())
 }
 
@@ -159,15 +154,17 @@ fn a_binlog_is_cut(rt: HostRuntime) -> Result<(), Fail> {
 #[test]
 fn a_cut_fails_midway(rt: HostRuntime) -> Result<(), Fail> {
     let alloc = rt.alloc();
-    let mut disk = failing_at(alloc, 6)?;
-    write_files(&mut disk)?;
-    let cut = BinlogFiles::cut_to(alloc, SiteId::B, 1, 3, &mut disk);
-    assert!(rt; matches!(cut, Err(DiskLogFault::DiskFault)));
-    assert_eq!(rt; disk.file(1), b"abc".as_slice());
-    assert_eq!(rt;
-        (disk.file(2), disk.file(4)),
-        (b"gh".as_slice(), b"ij".as_slice())
-    );
+    for call in [5, 6] {
+        let mut disk = failing_at(alloc, call)?;
+        write_files(&mut disk)?;
+        let cut = BinlogFiles::cut_to(alloc, SiteId::B, 1, 3, &mut disk);
+        assert!(rt; matches!(cut, Err(DiskLogFault::DiskFault)));
+        assert_eq!(rt; disk.file(1), b"abc".as_slice());
+        assert_eq!(rt;
+            (disk.file(2), disk.file(4)),
+            (b"gh".as_slice(), b"ij".as_slice())
+        );
+    }
     Ok(())
 }
 

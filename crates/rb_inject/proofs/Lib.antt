@@ -1,0 +1,4 @@
+mod BodyLaws
+mod LogLaws
+mod OpenLaws
+mod TestLaws

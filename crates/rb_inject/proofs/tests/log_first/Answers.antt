@@ -1,0 +1,12 @@
+use Rattle.std.proofs.Common.{[], arith}
+use Rattle.rb_inject.proofs.TestLaws.{none_written, few_there, first_logged}
+use Rattle.rb_inject.proofs.tests.log_first.Goals as goal
+
+pub take-requires-clause-later : goal.take-requires-clause-later
+take-requires-clause-later g c = omega (arith, none_written c.in_ok-injector.injector _ _ c.in_ok-injector.ensures.begun, c.in_ok-one_insert.ensures.epoch)
+
+pub take-requires-clause-few_files : goal.take-requires-clause-few_files
+take-requires-clause-few_files g c = few_there c.in_ok-injector.injector _ [] _ c.in_ok-injector.ensures.begun (omega arith)
+
+pub returns : goal.returns
+returns g c = record { logged = first_logged c.in_ok-injector.injector c.in_ok-injector-2.injector c.in_ok-one_insert.field-0 _ _ c.in_ok-injector.ensures.begun c.in_ok-one_insert.ensures.body c.in_ok-injector-2.ensures.taken }
