@@ -5,11 +5,9 @@
 # It ends with 0 where all bounds hold, with 1 where one is broken or a report is wrong, and with 2 where it cannot measure.
 here=$(cd "$(dirname "$0")" && pwd) || exit 2
 PYTHONPATH=$here exec python3 - "${1:-$here/../crates/rb_cli/out/rb_cli}" <<'PYTHON'
-import os
-import shutil
 import sys
 import tempfile
-from measure import Model, RUNS, judge, memory_of, seconds_of, stop
+from measure import Model, RUNS, judge, memory_of, program_and_timer, seconds_of
 
 SMALL, LARGE = 10_000, 100_000
 INSERTS = 400
@@ -40,12 +38,7 @@ def model_of(lines):
 
 
 def main():
-    program = os.path.abspath(sys.argv[1])
-    timer = shutil.which("time")
-    if not os.access(program, os.X_OK):
-        stop("there is no such program; ./rb builds it")
-    if timer is None:
-        stop("GNU time is not installed")
+    program, timer = program_and_timer()
     with tempfile.TemporaryDirectory() as folder:
         empty = f"{folder}/empty"
         open(empty, "wb").close()

@@ -1,4 +1,6 @@
 """What the benchmarks share: a model of a site, which tells the report that a script must have, and measuring."""
+import os
+import shutil
 import subprocess
 import sys
 import time
@@ -7,19 +9,24 @@ FIRST_EPOCH = 2**32
 END = "done"
 RUNS = 9
 
-# The bytes of a log: the magic and the format event, and then for each epoch of so many inserts of rows of two numbers BEGIN, two
-# table maps, the status row, the rows and XID. `t` is the table's name.
+# The bytes of a log: in each file the magic and the format event, and then for each epoch of so many inserts of rows of two
+# numbers BEGIN, two table maps, the status row, the rows and XID. `t` is the table's name. A rotate event ends a full file. The index
+# has a record for each epoch, and a byte at its end.
 LOG_START = 4 + (19 + 92)
 LOG_EPOCH = 38 + 62 + 39 + 61 + 27
 LOG_CHANGE = 57
+LOG_ROTATE = 19 + 8 + len("a-bin.000002")
+INDEX_RECORD = 65
+DEFAULT_LIMIT = 1048576
 
 
 class Model:
     """A site with the table `t num`. A message is an epoch, a bucket, and a place among the bucket's changes in the epoch, or
     END. Each method is a line of a script, and appends that line and its answer. The script loses no group."""
 
-    def __init__(self, groups=1, replicas=1):
-        self.lines = [f"site A groups {groups} replicas {replicas} limit 1048576", "table t num"]
+    def __init__(self, groups=1, replicas=1, limit=DEFAULT_LIMIT):
+        self.lines = [f"site A groups {groups} replicas {replicas} limit {limit}", "table t num"]
+        self.limit = limit
         self.answers = []
         self.rows = {}
         self.open = FIRST_EPOCH
@@ -66,15 +73,20 @@ class Model:
         return range(first, first + self.replicas)
 
     def insert(self, key, value):
-        line = f"tx A ins t {key} {value}"
         if key in self.rows:
-            return self._say(line, "key there 0")
-        self.rows[key] = value
+            return self._say(f"tx A ins t {key} {value}", "key there 0")
+        self.insert_all({key: value})
+
+    def insert_all(self, rows):
+        """One transaction, whose keys are not there yet."""
+        self.rows.update(rows)
         self.drawn += 1
-        bucket = (key + 1) % len(self.buckets)
-        self._send(self.owners[bucket], self.open, bucket, self.counts[bucket])
-        self.counts[bucket] += 1
-        self._say(line, f"ok transid={self.drawn} epoch={self.open} sent={len(self.sent)}")
+        for key in rows:
+            bucket = (key + 1) % len(self.buckets)
+            self._send(self.owners[bucket], self.open, bucket, self.counts[bucket])
+            self.counts[bucket] += 1
+        operations = " ; ".join(f"ins t {key} {value}" for key, value in rows.items())
+        self._say(f"tx A {operations}", f"ok transid={self.drawn} epoch={self.open} sent={len(self.sent)}")
 
     def close(self):
         closed, self.open = self.open, self.open + 1
@@ -147,7 +159,8 @@ class Model:
             self.taken, counts = self.untaken.pop(0)
             if any(counts):
                 self.written.append((self.taken, sum(counts)))
-                self.unacknowledged = [closed for closed in self.unacknowledged if closed[0] > self.taken]
+        while self.unacknowledged and self.unacknowledged[0][0] <= self._last():
+            self.unacknowledged.pop(0)
         return f"wrote {len(self.written) - before} written={self._last()} missing={missing}"
 
     def _last(self):
@@ -162,18 +175,51 @@ class Model:
     def script(self):
         return "\n".join(self.lines) + "\n"
 
+    def _places(self):
+        """The file of each written epoch, where it starts and where it ends, and the file behind the last one."""
+        file, end = 1, LOG_START
+        places = []
+        for _, changes in self.written:
+            start, end = end, end + LOG_EPOCH + LOG_CHANGE * changes
+            places.append((file, start, end))
+            if end >= self.limit:
+                file, end = file + 1, LOG_START
+        return places, file
+
     def report(self):
         rows = [f"row {key} {value}" for key, value in sorted(self.rows.items())]
-        log = f"log A files=1 epochs={len(self.written)} written={self._last()}"
-        return "\n".join(["ndb replication report", *self.answers, log, f"table A t rows={len(rows)}", *rows, "end"]) + "\n"
+        places, files = self._places()
+        index = [f"epoch {epoch} gci={epoch >> 32} file={file} pos={start} next={end} ins={changes} upd=0 del=0"
+                 for (epoch, changes), (file, start, end) in zip(self.written, places)]
+        log = [f"log A files={files} epochs={len(self.written)} written={self._last()}", *index]
+        return "\n".join(["ndb replication report", *self.answers, *log, f"table A t rows={len(rows)}", *rows, "end"]) + "\n"
 
     def log_bytes(self):
-        return LOG_START + sum(LOG_EPOCH + LOG_CHANGE * changes for _, changes in self.written)
+        """The bytes of all files, with those of the index."""
+        _, files = self._places()
+        epochs = sum(LOG_EPOCH + LOG_CHANGE * changes for _, changes in self.written)
+        return files * LOG_START + (files - 1) * LOG_ROTATE + epochs + len(self.written) * INDEX_RECORD + 1
 
 
 def stop(why):
     print(f"{sys.argv[0]}: {why}", file=sys.stderr)
     sys.exit(2)
+
+
+def program_given():
+    """The program of the command line, which is to be measured."""
+    program = os.path.abspath(sys.argv[1])
+    if not os.access(program, os.X_OK):
+        stop("there is no such program; ./rb builds it")
+    return program
+
+
+def program_and_timer():
+    """The same, and GNU time."""
+    timer = shutil.which("time")
+    if timer is None:
+        stop("GNU time is not installed")
+    return program_given(), timer
 
 
 def seconds_of(program, script, report):

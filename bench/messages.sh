@@ -6,10 +6,9 @@
 # It ends with 0 where the bounds hold, with 1 where one is broken or a report is wrong, and with 2 where it cannot measure.
 here=$(cd "$(dirname "$0")" && pwd) || exit 2
 PYTHONPATH=$here exec python3 - "${1:-$here/../crates/rb_cli/out/rb_cli}" <<'PYTHON'
-import os
 import sys
 import tempfile
-from measure import Model, RUNS, judge, seconds_of, stop
+from measure import Model, RUNS, judge, program_given, seconds_of
 
 SMALL, LARGE = 10_000, 100_000
 INSERTS = 400
@@ -78,9 +77,7 @@ def timed(program, folder, model):
 
 
 def main():
-    program = os.path.abspath(sys.argv[1])
-    if not os.access(program, os.X_OK):
-        stop("there is no such program; ./rb builds it")
+    program = program_given()
     with tempfile.TemporaryDirectory() as folder:
         small, large = (timed(program, folder, model_of(lines)) for lines in (SMALL, LARGE))
         models = failing_model(False), failing_model(True)

@@ -2,17 +2,16 @@
 # Reads logs of 1 MB and of 200 MB, of epochs of 100 changes and of one change, checks the first epochs of their texts, and holds
 # time per byte and memory to their bounds.
 # Usage: bench/read.sh [PROGRAM]; by default the program that ./rb builds. It needs python3 and GNU time, and 250 MB in the folder for
-# temporary files. The logs are made here, byte by byte as docs/LOG_FORMAT.md says, for no word of the program prints a log's bytes yet.
+# temporary files. The logs are made here, byte by byte as docs/LOG_FORMAT.md says.
 # It ends with 0 where all bounds hold, with 1 where one is broken or a text is wrong, and with 2 where it cannot measure.
 here=$(cd "$(dirname "$0")" && pwd) || exit 2
 PYTHONPATH=$here exec python3 - "${1:-$here/../crates/rb_cli/out/rb_cli}" <<'PYTHON'
 import os
-import shutil
 import subprocess
 import sys
 import tempfile
 import time
-from measure import FIRST_EPOCH, judge, stop
+from measure import FIRST_EPOCH, judge, program_and_timer, stop
 
 MEGABYTE = 1_000_000
 SMALL, LARGE = 1, 200
@@ -109,12 +108,7 @@ def memory_of(timer, program, path):
 
 
 def main():
-    program = os.path.abspath(sys.argv[1])
-    timer = shutil.which("time")
-    if not os.access(program, os.X_OK):
-        stop("there is no such program; ./rb builds it")
-    if timer is None:
-        stop("GNU time is not installed")
+    program, timer = program_and_timer()
     holds = []
     for changes in EPOCHS_OF:
         per_byte, peak = {}, {}

@@ -1,18 +1,17 @@
 //! The program: it hands the process's arguments, its standard streams and two devices in memory to [`rb_top::top`], and
 //! ends with what the status means to a shell.
 //!
-//! Its one contract is that each status has the exit number and the line on standard error that the definitions give.
-//! Below it stands the call of the program, which carries the theorem; nothing stands above.
+//! Its one contract is that the words are the process's arguments. Below it stand the call of the program, which carries the
+//! theorem, and what each status means to a shell; nothing stands above.
 #![tactic(auto)]
 
 mod arguments;
-mod ending;
 #[cfg(test)]
 mod tests;
 
 use crate::arguments::arguments;
-use crate::ending::{exit_number, tell};
 use rb_disk::MemoryDisk;
+use rb_ending::{exit_number, tell};
 use rb_io::{StdSink, StdSource};
 use rb_top::{Status, top};
 use std::env::Env;

@@ -19,7 +19,7 @@ use Rattle.rb_journal_defs.specs.Body.{Shape}
 use Rattle.rb_journal_defs.specs.Clock.{epoch_after}
 use Rattle.rb_journal_defs.specs.Transaction.{Refusal, refusal_of, change_over, changes_made}
 use Rattle.rb_message_defs.specs.Received.{answer_to}
-use Rattle.rb_play_defs.specs.Step.{Progress, unchanged, refused, rows_of, tx_changes, committed, commit_outcome, tx_step, closed, close_step, fed_by, delivered_message, answer_outcome, deliver_step, undelivered, after_delivery, all_delivered, delivery_of_all, deliver_all_step, injection_of, inject_step, Stepped, needed_of, takeover_step, loss_step, fail_step, restart_step, resend_step, unless_lost, site_step}
+use Rattle.rb_play_defs.specs.Step.{Progress, unchanged, refused, rows_of, tx_changes, committed, commit_outcome, tx_step, closed, close_step, fed_by, delivered_message, answer_outcome, deliver_step, undelivered, after_delivery, all_delivered, delivery_of_all, deliver_all_step, injection_of, inject_step, Stepped, needed_of, takeover_step, loss_step, fail_step, restart_step, resend_step, injector_step, unless_lost, site_step}
 use Rattle.rb_message_defs.specs.Nodes.{node_at, successor_of, with_restart}
 use Rattle.rb_play_defs.specs.Play.{log_step, event_step, Played, played_on}
 
@@ -141,6 +141,11 @@ counted_resend : (shape : Shape) (run : Progress) → Counted shape run (resend_
 unfolding resend_step
 counted_resend shape run = record { drawn = omega arith; opened = omega arith; changes_are = omega arith }
 
+-- an injector that stops
+counted_injector : (shape : Shape) (run : Progress) → Counted shape run (injector_step shape run).run 0 0
+unfolding injector_step
+counted_injector shape run = record { drawn = omega arith; opened = omega arith; changes_are = omega arith }
+
 -- an event that a lost site refuses
 counted_unless : (shape : Shape) (run : Progress) (step : Stepped) (changes : ℕ) → Counted shape run step.run 1 changes → Counted shape run (unless_lost run step).run 1 changes
 counted_unless shape run step changes counts = go run.lost
@@ -161,6 +166,7 @@ counted_event shape run (events.Log site) = as_one shape run (log_step shape run
 counted_event shape run (events.Fail site node) = counted_unless shape run (fail_step shape node run) 0 (as_one shape run (fail_step shape node run).run (counted_fail shape node run))
 counted_event shape run (events.Restart site node) = counted_unless shape run (restart_step node run) 0 (as_one shape run (restart_step node run).run (counted_restart shape node run))
 counted_event shape run (events.Resend site) = counted_unless shape run (resend_step shape run) 0 (as_one shape run (resend_step shape run).run (counted_resend shape run))
+counted_event shape run (events.Injector site) = as_one shape run (injector_step shape run).run (counted_injector shape run)
 counted_event shape run event = counted_self shape run 1 0
 
 -- these events played: as many events, with their changes

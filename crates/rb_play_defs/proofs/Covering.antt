@@ -25,11 +25,12 @@ use Rattle.rb_journal_defs.proofs.Order.{Rises, closed_rise, opened_above, upto,
 use Rattle.rb_message_defs.specs.Message.{home_node}
 use Rattle.rb_message_defs.proofs.Messages.{all_joined, get_end, get_left}
 use Rattle.rb_message_defs.specs.Nodes.{Node, node_from, down, Nodes, node_at, owner_in, needed_epoch, covers, others_behind, successor_of, with_node, with_failure, with_restart, with_owner, returns, with_returns, numbers_in, group_of, buffered, messages_of, part_messages, unacknowledged}
-use Rattle.rb_play_defs.specs.Step.{Progress, nodes_at_first, beginning, acknowledged_epoch, needed_of, last_epoch, written_bodies, worth_logging, unchanged, refused, rows_of, tx_changes, committed, commit_outcome, tx_step, only_closed, closed, close_step, fed_by, delivered_message, answer_outcome, deliver_step, undelivered, after_delivery, all_delivered, delivery_of_all, deliver_all_step, takeover_step, loss_step, fail_step, restart_step, resend_step, unless_lost, Stepped, takeable, with_taken, injected, injection_of, inject_step, site_step}
+use Rattle.rb_play_defs.specs.Step.{Progress, nodes_at_first, beginning, acknowledged_epoch, needed_of, last_epoch, written_bodies, worth_logging, unchanged, refused, rows_of, tx_changes, committed, commit_outcome, tx_step, only_closed, closed, close_step, fed_by, delivered_message, answer_outcome, deliver_step, undelivered, after_delivery, all_delivered, delivery_of_all, deliver_all_step, takeover_step, loss_step, fail_step, restart_step, resend_step, injector_step, unless_lost, Stepped, takeable, with_taken, injected, injection_of, inject_step, site_step}
 use Rattle.rb_play_defs.specs.Play.{shape_of, log_step, event_step, Played, played_on, not_played, play_of}
 use Rattle.rb_play_defs.specs.Sound.{IsSound, CanSendAgain}
 use Rattle.rb_play_defs.proofs.Sounds.{closed_all_below, length_numbers, sound_beginning}
-use Rattle.rb_play_defs.proofs.Takes.{front_of, sound_taken, takeable_rest, injected_more, injected_end, written_is, written_more}
+use Rattle.rb_play_defs.proofs.Restarts.{acknowledged_is}
+use Rattle.rb_play_defs.proofs.Takes.{front_of, sound_taken, takeable_rest, injected_more, injected_end, written_more}
 use Rattle.rb_play_defs.proofs.Fits.{all_filtered}
 use Rattle.rb_play_defs.proofs.Grows.{written_within, goes, goes_delivery, goes_on}
 
@@ -41,18 +42,6 @@ last_in P (x ∷ xs) none all = from x xs all.0 all.1
     from : (x : ℕ) (xs : List ℕ) → P x → AllByRecursion P xs → P (unwrap_or (last_or (Some x) xs) 0)
     from x [] here all = here
     from x (y ∷ xs) here all = from y xs all.0 all.1
-
--- the epochs of bodies
-epochs_of_bodies : (shape : Shape) (j : Journal) (es : List ℕ) → map (λ (body : EpochBody). body.epoch.0) (map (λ epoch. body_of shape epoch j) es) ≡ es
-unfolding body_of
-epochs_of_bodies shape j [] = refl
-epochs_of_bodies shape j (e ∷ es) = ap (λ (xs : List ℕ). e ∷ xs) (epochs_of_bodies shape j es)
-
--- the acknowledged epoch is the last one worth logging up to the last taken one
-acknowledged_is : (shape : Shape) (run : Progress) → IsSound shape run → acknowledged_epoch shape run ≡ unwrap_or (last_or None (worth_logging shape run.journal (upto run.last run.journal))) 0
-acknowledged_is shape run sound =
-    ap last_epoch (written_is shape run sound)
-    ∙ ap (λ (es : List ℕ). unwrap_or (last_or None es) 0) (epochs_of_bodies shape run.journal (worth_logging shape run.journal (upto run.last run.journal)))
 
 pub acknowledged_below : (shape : Shape) (run : Progress) → IsSound shape run → acknowledged_epoch shape run < run.opened
 acknowledged_below shape run sound =
@@ -394,6 +383,10 @@ covered_resend : (shape : Shape) (run : Progress) → IsCovered shape run → Is
 unfolding resend_step
 covered_resend shape run covered = covered
 
+covered_injector : (shape : Shape) (run : Progress) → IsCovered shape run → IsCovered shape (injector_step shape run).run
+unfolding injector_step
+covered_injector shape run covered = covered
+
 covered_unless : (shape : Shape) (run : Progress) (step : Stepped) → IsCovered shape run → IsCovered shape step.run → IsCovered shape (unless_lost run step).run
 covered_unless shape run step covered next = go run.lost
   where
@@ -413,6 +406,7 @@ covered_event shape run (events.Log site) sound covered = covered_log shape run 
 covered_event shape run (events.Fail site node) sound covered = covered_unless shape run (fail_step shape node run) covered (covered_fail shape node run sound covered)
 covered_event shape run (events.Restart site node) sound covered = covered_unless shape run (restart_step node run) covered (covered_restarted shape node run covered)
 covered_event shape run (events.Resend site) sound covered = covered_unless shape run (resend_step shape run) covered (covered_resend shape run covered)
+covered_event shape run (events.Injector site) sound covered = covered_injector shape run covered
 covered_event shape run event sound covered = covered
 
 covered_on : (shape : Shape) (played : Played) (lined : List LinedEvent) → IsSound shape played.run → IsCovered shape played.run → IsCovered shape (fold (played_on shape) played lined).run

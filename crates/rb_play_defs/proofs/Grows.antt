@@ -16,7 +16,7 @@ use Rattle.rb_journal_defs.specs.Body.{Shape, body_of, completed_bodies}
 use Rattle.rb_journal_defs.specs.Transaction.{Refusal, refusal_of}
 use Rattle.rb_journal_defs.proofs.Bodies.{if_logged, completed_client, completed_closed}
 use Rattle.rb_message_defs.specs.Received.{answer_to}
-use Rattle.rb_play_defs.specs.Step.{Progress, unchanged, refused, rows_of, tx_changes, committed, commit_outcome, tx_step, closed, close_step, fed_by, delivered_message, answer_outcome, deliver_step, undelivered, after_delivery, all_delivered, delivery_of_all, deliver_all_step, Stepped, needed_of, takeover_step, loss_step, fail_step, restart_step, resend_step, unless_lost, takeable, injected, injection_of, inject_step, site_step, written_bodies, with_taken}
+use Rattle.rb_play_defs.specs.Step.{Progress, unchanged, refused, rows_of, tx_changes, committed, commit_outcome, tx_step, closed, close_step, fed_by, delivered_message, answer_outcome, deliver_step, undelivered, after_delivery, all_delivered, delivery_of_all, deliver_all_step, Stepped, needed_of, takeover_step, loss_step, fail_step, restart_step, resend_step, injector_step, unless_lost, takeable, injected, injection_of, inject_step, site_step, written_bodies, with_taken}
 use Rattle.rb_play_defs.specs.Sound.{IsSound}
 use Rattle.rb_play_defs.specs.declared.event.SiteEvent.{SiteEvent}
 use Rattle.rb_play_defs.specs.declared.event.SiteEvent.TheVariants as happenings
@@ -24,6 +24,7 @@ use Rattle.rb_base.specs.declared.script.Setup.{Setup}
 use Rattle.rb_message_defs.specs.Nodes.{node_at, successor_of, with_restart}
 use Rattle.rb_play_defs.specs.Play.{shape_of, log_step, event_step, Played, played_on, not_played, play_of}
 use Rattle.rb_play_defs.proofs.Sounds.{closed_all_below, sound_beginning, sound_commit, sound_close, sound_fail, sound_restart, sound_resend}
+use Rattle.rb_play_defs.proofs.Restarts.{sound_injector}
 use Rattle.rb_play_defs.proofs.Takes.{sound_delivered, sound_taken, takeable_rest, injected_more, injected_end, written_is, written_more}
 
 -- these begin with those
@@ -138,6 +139,11 @@ goes_resend : (shape : Shape) (run : Progress) → IsSound shape run → Goes sh
 unfolding resend_step
 goes_resend shape run sound = record { sound = sound_resend shape run sound; grows = begins_self (written_bodies shape run) }
 
+-- an injector that stops
+goes_injector : (shape : Shape) (run : Progress) → IsSound shape run → Goes shape run (injector_step shape run).run
+unfolding injector_step
+goes_injector shape run sound = record { sound = sound_injector shape run sound; grows = begins_self (written_bodies shape run) }
+
 -- an event that a lost site refuses
 goes_unless : (shape : Shape) (run : Progress) (step : Stepped) → IsSound shape run → Goes shape run step.run → Goes shape run (unless_lost run step).run
 goes_unless shape run step sound next = go run.lost
@@ -157,6 +163,7 @@ goes_site shape run happenings.Inject sound = goes_injection shape run sound
 goes_site shape run (happenings.Fail node) sound = goes_unless shape run (fail_step shape node run) sound (goes_fail shape node run sound)
 goes_site shape run (happenings.Restart node) sound = goes_unless shape run (restart_step node run) sound (goes_restart shape node run sound)
 goes_site shape run happenings.Resend sound = goes_unless shape run (resend_step shape run) sound (goes_resend shape run sound)
+goes_site shape run happenings.Injector sound = goes_injector shape run sound
 
 goes_log : (shape : Shape) (run : Progress) → IsSound shape run → Goes shape run (log_step shape run).run
 unfolding log_step
@@ -176,7 +183,7 @@ goes shape run (events.Log site) sound = goes_log shape run sound
 goes shape run (events.Fail site node) sound = goes_unless shape run (fail_step shape node run) sound (goes_fail shape node run sound)
 goes shape run (events.Restart site node) sound = goes_unless shape run (restart_step node run) sound (goes_restart shape node run sound)
 goes shape run (events.Resend site) sound = goes_unless shape run (resend_step shape run) sound (goes_resend shape run sound)
-goes shape run (events.Injector site) sound = goes_self shape run sound
+goes shape run (events.Injector site) sound = goes_injector shape run sound
 goes shape run (events.Piece site file position count) sound = goes_self shape run sound
 goes shape run (events.Pull site) sound = goes_self shape run sound
 goes shape run (events.Apply site) sound = goes_self shape run sound

@@ -1,5 +1,6 @@
 pub mod Sounds
 pub mod Takes
+pub mod Restarts
 pub mod Grows
 pub mod Fits
 pub mod Counts

@@ -133,7 +133,7 @@ with_returns_stays buckets needed site nodes = record {
 }
 
 -- what is sent besides is the journal's
-sound_sent : (shape : Shape) (run : Progress) (sent : List Sent) → IsSound shape run → AllByRecursion (λ s. IsOwn shape run.journal s.message) sent → IsSound shape (record run { sent = run.sent ++ sent })
+pub sound_sent : (shape : Shape) (run : Progress) (sent : List Sent) → IsSound shape run → AllByRecursion (λ s. IsOwn shape run.journal s.message) sent → IsSound shape (record run { sent = run.sent ++ sent })
 sound_sent shape run sent sound own = record {
   order = sound.order;
   some = sound.some;
@@ -148,7 +148,7 @@ sound_nodes : (shape : Shape) (run : Progress) (nodes : Nodes) (lost : Option (�
 sound_nodes shape run nodes lost sound are = record { order = sound.order; some = sound.some; sent = sound.sent; received = sound.received; last = sound.last; nodes = are; written = sound.written }
 
 -- what is sent again of some buckets
-again_own : (shape : Shape) (run : Progress) (sender : ℕ → ℕ) (buckets : List ℕ) → AllByRecursion (λ bucket. bucket < shape.buckets) buckets → AllByRecursion (λ s. IsOwn shape run.journal s.message) (flat_map (λ bucket. sent_again shape run (sender bucket) bucket) buckets)
+pub again_own : (shape : Shape) (run : Progress) (sender : ℕ → ℕ) (buckets : List ℕ) → AllByRecursion (λ bucket. bucket < shape.buckets) buckets → AllByRecursion (λ s. IsOwn shape run.journal s.message) (flat_map (λ bucket. sent_again shape run (sender bucket) bucket) buckets)
 again_own shape run sender [] all = tt
 again_own shape run sender (bucket ∷ buckets) all =
     all_joined (λ s. IsOwn shape run.journal s.message) (sent_again shape run (sender bucket) bucket) (flat_map (λ b. sent_again shape run (sender b) b) buckets)

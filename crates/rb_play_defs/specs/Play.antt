@@ -11,12 +11,13 @@ use Rattle.rb_base.specs.declared.outcome.Outcome.{Outcome}
 use Rattle.rb_base.specs.declared.outcome.Outcome.TheVariants as outcomes
 use Rattle.rb_text_defs.specs.declared.script.LinedEvent.{LinedEvent}
 use Rattle.rb_text_defs.specs.declared.script.Script.{Script}
-use Rattle.rb_text_defs.specs.Report.{NamedRows, LogCounts, report_text}
-use Rattle.rb_log_defs.specs.File.{binlog_files}
+use Rattle.rb_text_defs.specs.Report.{NamedRows, LogRows, report_text}
+use Rattle.rb_log_defs.specs.File.{binlog_files, index_rows}
+use Rattle.rb_device_defs.specs.Image.{HoldsLog}
 use Rattle.rb_journal_defs.specs.Journal.{Journal}
 use Rattle.rb_journal_defs.specs.Body.{Shape, mapped_tables}
 use Rattle.rb_journal_defs.specs.Table.{rows_of_table}
-use Rattle.rb_play_defs.specs.Step.{Progress, beginning, Stepped, unchanged, Answers, Injection, delivery_of_all, injection_of, site_step, last_epoch, written_bodies}
+use Rattle.rb_play_defs.specs.Step.{Progress, beginning, Stepped, unchanged, Answers, Injection, delivery_of_all, injection_of, site_step, written_bodies}
 use Rattle.rb_play_defs.specs.declared.event.SiteEvent.TheVariants as at_site
 
 -- site A of a script
@@ -47,6 +48,7 @@ event_step shape run (events.Log site) = log_step shape run
 event_step shape run (events.Fail site node) = site_step shape run (at_site.Fail node)
 event_step shape run (events.Restart site node) = site_step shape run (at_site.Restart node)
 event_step shape run (events.Resend site) = site_step shape run at_site.Resend
+event_step shape run (events.Injector site) = site_step shape run at_site.Injector
 event_step shape run event = unchanged run outcomes.Nothing
 
 -- where a script has come, and what each event answered
@@ -82,20 +84,23 @@ log_of script = written_bodies (shape_of script.setup) (play script).run
 abbrev pub files_of : Script → List (List ℕ)
 files_of script = binlog_files A script.setup.a.limit (log_of script)
 
+-- site A's device holds that log
+abbrev pub HoldsLogOf : Script → (seen : ℕ → List ℕ) → Type 0
+HoldsLogOf script seen = HoldsLog A script.setup.a.limit (log_of script) seen
+
 -- the tables of a script with the rows that a journal leaves
 abbrev pub tables_left : List Schema → Journal → List NamedRows
 tables_left schemas journal =
     map (λ numbered. record { name = numbered.1.name; rows = rows_of_table A numbered.0 journal }) (enumerate_from 1 schemas)
 
--- what a log of these bodies amounts to
-abbrev pub counts_of : (limit : ℕ) → List EpochBody → LogCounts
-counts_of limit bodies =
-    record { files = length (binlog_files A limit bodies); epochs = length bodies; written = last_epoch bodies }
+-- the log of these bodies, as a report tells it
+abbrev pub log_rows : (limit : ℕ) → List EpochBody → LogRows
+log_rows limit bodies = record { files = length (binlog_files A limit bodies); rows = index_rows A limit bodies }
 
 -- the report of a run of this script that has come here
 abbrev pub report_at : Setup → Played → List ℕ
 report_at setup played =
-    report_text played.outcomes (counts_of setup.a.limit (written_bodies (shape_of setup) played.run))
+    report_text played.outcomes (log_rows setup.a.limit (written_bodies (shape_of setup) played.run))
     (tables_left setup.tables played.run.journal)
 
 -- the report of a script

@@ -23,7 +23,7 @@ use Rattle.rb_message_defs.specs.Nodes.{Nodes, node_from, node_at, owner_in, nee
 use Rattle.rb_message_defs.specs.Received.{Fed, answer_to, missing_of}
 use Rattle.rb_message_defs.specs.Taken.{taken_epochs}
 use Rattle.rb_play_defs.specs.declared.event.SiteEvent.{SiteEvent}
-use Rattle.rb_play_defs.specs.declared.event.SiteEvent.TheVariants.{Tx, Close, Deliver, DeliverAll, Inject, Fail, Restart, Resend}
+use Rattle.rb_play_defs.specs.declared.event.SiteEvent.TheVariants.{Tx, Close, Deliver, DeliverAll, Inject, Fail, Restart, Resend, Injector}
 
 -- a site within a run: its journal, its open epoch, how many transactions it has numbered; all messages that its nodes sent, and
 -- the places of those that were delivered; the messages that the event buffer received, the newest first, the last epoch that was
@@ -190,11 +190,34 @@ restart_step node run =
     if (node_at run.nodes node).up then unchanged run (outcomes.NodeUp node)
     else record { run = record run { nodes = with_restart node run.opened run.nodes }; outcome = outcomes.Restarted (record { 0 = run.opened + 1 }) }
 
--- every owner sends its buckets again, bucket 0 first
+-- what all owners send again of their buckets, bucket 0 first
+abbrev pub sent_by_owners : Shape → Progress → List Sent
+sent_by_owners shape run = flat_map (λ bucket. sent_again shape run (owner_in run.nodes bucket) bucket) (numbers_below shape.buckets)
+
+-- every owner sends its buckets again
 unfoldable pub resend_step : Shape → Progress → Stepped
 resend_step shape run =
-    let sent = run.sent ++ flat_map (λ bucket. sent_again shape run (owner_in run.nodes bucket) bucket) (numbers_below shape.buckets) in
+    let sent = run.sent ++ sent_by_owners shape run in
     record { run = record run { sent = sent }; outcome = outcomes.Resent (length sent) }
+
+-- what they send to a new injector, which they cannot where a group is lost
+abbrev pub sent_to_injector : Shape → Progress → List Sent
+sent_to_injector shape run = option_map_or (λ loss. []) run.lost (sent_by_owners shape run)
+
+-- the injector stopped, and its log was opened again: its event buffer is empty, and waits behind the last epoch that is written
+abbrev pub with_new_injector : Shape → Progress → Progress
+with_new_injector shape run = record run {
+  received = [];
+  last = acknowledged_epoch shape run;
+  sent = run.sent ++ sent_to_injector shape run;
+}
+
+-- the same, with its answer
+unfoldable pub injector_step : Shape → Progress → Stepped
+injector_step shape run = record {
+  run = with_new_injector shape run;
+  outcome = outcomes.Recovered (record { 0 = acknowledged_epoch shape run }) (length (with_new_injector shape run).sent);
+}
 
 -- an event that a lost site refuses
 abbrev pub unless_lost : Progress → Stepped → Stepped
@@ -338,3 +361,4 @@ site_step shape run Inject = inject_step shape run
 site_step shape run (Fail node) = unless_lost run (fail_step shape node run)
 site_step shape run (Restart node) = unless_lost run (restart_step node run)
 site_step shape run Resend = unless_lost run (resend_step shape run)
+site_step shape run Injector = injector_step shape run

@@ -34,6 +34,7 @@ the_first_path_report =
     ∷ codes "4 closed 4294967296 sent=3"
     ∷ codes "5 delivered kept=3 known=0 old=0 wrote 1 written=4294967296 missing=0:done"
     ∷ codes "log A files=1 epochs=1 written=4294967296"
+    ∷ codes "epoch 4294967296 gci=1 file=1 pos=115 next=456 ins=2 upd=0 del=0"
     ∷ codes "table A t rows=2"
     ∷ codes "row 5 7"
     ∷ codes "row 6 8"
@@ -65,6 +66,8 @@ empty_epochs_report =
     ∷ codes "8 closed 8589934593 sent=7"
     ∷ codes "9 delivered kept=7 known=0 old=0 wrote 2 written=8589934593 missing=0:done"
     ∷ codes "log A files=1 epochs=2 written=8589934593"
+    ∷ codes "epoch 4294967296 gci=1 file=1 pos=115 next=399 ins=1 upd=0 del=0"
+    ∷ codes "epoch 8589934593 gci=2 file=1 pos=399 next=683 ins=1 upd=0 del=0"
     ∷ codes "table A t rows=2"
     ∷ codes "row 1 1"
     ∷ codes "row 2 2"
@@ -124,6 +127,7 @@ order_and_repeats_report =
     ∷ codes "10 wrote 1 written=4294967296 missing=0:done"
     ∷ codes "11 old"
     ∷ codes "log A files=1 epochs=1 written=4294967296"
+    ∷ codes "epoch 4294967296 gci=1 file=1 pos=115 next=456 ins=2 upd=0 del=0"
     ∷ codes "table A t rows=2"
     ∷ codes "row 5 7"
     ∷ codes "row 6 8"
@@ -161,6 +165,8 @@ lost_first_report =
     ∷ codes "11 kept"
     ∷ codes "12 wrote 2 written=4294967297 missing=0:done"
     ∷ codes "log A files=1 epochs=2 written=4294967297"
+    ∷ codes "epoch 4294967296 gci=1 file=1 pos=115 next=399 ins=1 upd=0 del=0"
+    ∷ codes "epoch 4294967297 gci=1 file=1 pos=399 next=683 ins=1 upd=0 del=0"
     ∷ codes "table A t rows=2"
     ∷ codes "row 1 1"
     ∷ codes "row 2 2"
@@ -185,6 +191,7 @@ two_nodes_report =
     ∷ codes "5 closed 4294967296 sent=5"
     ∷ codes "6 delivered kept=5 known=0 old=0 wrote 1 written=4294967296 missing=0:done"
     ∷ codes "log A files=1 epochs=1 written=4294967296"
+    ∷ codes "epoch 4294967296 gci=1 file=1 pos=115 next=513 ins=3 upd=0 del=0"
     ∷ codes "table A t rows=3"
     ∷ codes "row 1 10"
     ∷ codes "row 2 20"
@@ -218,6 +225,7 @@ takeover_report =
     ∷ codes "9 node down 0"
     ∷ codes "10 node up 1"
     ∷ codes "log A files=1 epochs=1 written=4294967296"
+    ∷ codes "epoch 4294967296 gci=1 file=1 pos=115 next=513 ins=3 upd=0 del=0"
     ∷ codes "table A t rows=3"
     ∷ codes "row 1 10"
     ∷ codes "row 2 20"
@@ -275,6 +283,7 @@ resend_report =
     ∷ codes "5 resent sent=6"
     ∷ codes "6 delivered kept=3 known=3 old=0 wrote 1 written=4294967296 missing=0:done"
     ∷ codes "log A files=1 epochs=1 written=4294967296"
+    ∷ codes "epoch 4294967296 gci=1 file=1 pos=115 next=399 ins=1 upd=0 del=0"
     ∷ codes "table A t rows=1"
     ∷ codes "row 1 1"
     ∷ codes "end" ∷ []
@@ -308,6 +317,8 @@ return_report =
     ∷ codes "10 failed takeover=1 sent=11"
     ∷ codes "11 delivered kept=3 known=0 old=0 wrote 1 written=4294967297 missing=0:done"
     ∷ codes "log A files=1 epochs=2 written=4294967297"
+    ∷ codes "epoch 4294967296 gci=1 file=1 pos=115 next=456 ins=2 upd=0 del=0"
+    ∷ codes "epoch 4294967297 gci=1 file=1 pos=456 next=740 ins=1 upd=0 del=0"
     ∷ codes "table A t rows=3"
     ∷ codes "row 1 10"
     ∷ codes "row 2 20"
@@ -337,8 +348,80 @@ cycle_report =
     ∷ codes "7 closed 4294967296 sent=7"
     ∷ codes "8 delivered kept=5 known=0 old=0 wrote 1 written=4294967296 missing=0:done"
     ∷ codes "log A files=1 epochs=1 written=4294967296"
+    ∷ codes "epoch 4294967296 gci=1 file=1 pos=115 next=399 ins=1 upd=0 del=0"
     ∷ codes "table A t rows=1"
     ∷ codes "row 1 10"
+    ∷ codes "end" ∷ []
+
+-- a log that is rotated
+abbrev pub rotation_script : List (List ℕ)
+rotation_script =
+    codes "site A groups 1 replicas 1 limit 512"
+    ∷ codes "table t num"
+    ∷ codes "tx A ins t 1 1"
+    ∷ codes "epoch A"
+    ∷ codes "gcp A"
+    ∷ codes "epoch A"
+    ∷ codes "tx A ins t 2 2"
+    ∷ codes "epoch A"
+    ∷ codes "log A"
+    ∷ codes "tx A upd t 1 3 ; del t 2"
+    ∷ codes "epoch A"
+    ∷ codes "log A" ∷ []
+
+-- its report
+abbrev pub rotation_report : List (List ℕ)
+rotation_report =
+    codes "ndb replication report"
+    ∷ codes "3 ok transid=1 epoch=4294967296 sent=1"
+    ∷ codes "4 closed 4294967296 sent=2"
+    ∷ codes "5 closed 4294967297 sent=3"
+    ∷ codes "6 closed 8589934592 sent=4"
+    ∷ codes "7 ok transid=2 epoch=8589934593 sent=5"
+    ∷ codes "8 closed 8589934593 sent=6"
+    ∷ codes "9 delivered kept=6 known=0 old=0 wrote 2 written=8589934593 missing=0:done"
+    ∷ codes "10 ok transid=3 epoch=8589934594 sent=8"
+    ∷ codes "11 closed 8589934594 sent=9"
+    ∷ codes "12 delivered kept=3 known=0 old=0 wrote 1 written=8589934594 missing=0:done"
+    ∷ codes "log A files=2 epochs=3 written=8589934594"
+    ∷ codes "epoch 4294967296 gci=1 file=1 pos=115 next=399 ins=1 upd=0 del=0"
+    ∷ codes "epoch 8589934593 gci=2 file=1 pos=399 next=683 ins=1 upd=0 del=0"
+    ∷ codes "epoch 8589934594 gci=2 file=2 pos=115 next=474 ins=0 upd=1 del=1"
+    ∷ codes "table A t rows=1"
+    ∷ codes "row 1 3"
+    ∷ codes "end" ∷ []
+
+-- an injector that stops behind an empty epoch
+abbrev pub injector_script : List (List ℕ)
+injector_script =
+    codes "table t num"
+    ∷ codes "tx A ins t 1 1"
+    ∷ codes "epoch A"
+    ∷ codes "epoch A"
+    ∷ codes "log A"
+    ∷ codes "injector A"
+    ∷ codes "tx A ins t 2 2"
+    ∷ codes "epoch A"
+    ∷ codes "log A" ∷ []
+
+-- its report
+abbrev pub injector_report : List (List ℕ)
+injector_report =
+    codes "ndb replication report"
+    ∷ codes "2 ok transid=1 epoch=4294967296 sent=1"
+    ∷ codes "3 closed 4294967296 sent=2"
+    ∷ codes "4 closed 4294967297 sent=3"
+    ∷ codes "5 delivered kept=3 known=0 old=0 wrote 1 written=4294967296 missing=0:done"
+    ∷ codes "6 recovered written=4294967296 sent=4"
+    ∷ codes "7 ok transid=2 epoch=4294967298 sent=5"
+    ∷ codes "8 closed 4294967298 sent=6"
+    ∷ codes "9 delivered kept=3 known=0 old=0 wrote 1 written=4294967298 missing=0:done"
+    ∷ codes "log A files=1 epochs=2 written=4294967298"
+    ∷ codes "epoch 4294967296 gci=1 file=1 pos=115 next=399 ins=1 upd=0 del=0"
+    ∷ codes "epoch 4294967298 gci=1 file=1 pos=399 next=683 ins=1 upd=0 del=0"
+    ∷ codes "table A t rows=2"
+    ∷ codes "row 1 1"
+    ∷ codes "row 2 2"
     ∷ codes "end" ∷ []
 
 -- how these lines are refused: the first bad line, and what is wrong with it

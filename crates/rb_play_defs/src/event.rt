@@ -19,4 +19,6 @@ pub enum SiteEvent {
     Restart(u32),
     /// Each owner sends its unacknowledged messages again.
     Resend,
+    /// The injector stops, and its log is opened again. Its event buffer is empty then, and each owner sends again.
+    Injector,
 }

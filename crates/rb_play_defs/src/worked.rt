@@ -1,7 +1,7 @@
 ghost use Rattle.std.specs.Prelude.{◌≡◌, ◌∷◌, [], codes};
 ghost use Rattle.rb_text_defs.specs.declared.script.ScriptKind.TheVariants as ScriptKind;
 ghost use Rattle.rb_text_defs.specs.Report.{text_of_lines};
-ghost use Rattle.rb_play_defs.specs.Worked.{report_of_lines, the_first_path_script, the_first_path_report, empty_epochs_script, empty_epochs_report, refused_transactions_script, refused_transactions_report, order_and_repeats_script, order_and_repeats_report, lost_first_script, lost_first_report, two_nodes_script, two_nodes_report, takeover_script, takeover_report, lost_group_script, lost_group_report, resend_script, resend_report, return_script, return_report, cycle_script, cycle_report, are_refused};
+ghost use Rattle.rb_play_defs.specs.Worked.{report_of_lines, the_first_path_script, the_first_path_report, empty_epochs_script, empty_epochs_report, refused_transactions_script, refused_transactions_report, order_and_repeats_script, order_and_repeats_report, lost_first_script, lost_first_report, two_nodes_script, two_nodes_report, takeover_script, takeover_report, lost_group_script, lost_group_report, resend_script, resend_report, return_script, return_report, cycle_script, cycle_report, rotation_script, rotation_report, injector_script, injector_report, are_refused};
 
 /// Two inserts in one epoch, which is logged.
 pub fn the_first_path()
@@ -56,6 +56,16 @@ pub fn return_home()
 /// Of four nodes one after the other fails, and the next one in cyclic order takes over.
 pub fn cyclic_takeovers()
     ensures { report_of_lines cycle_script ≡ text_of_lines cycle_report }
+{}
+
+/// A log of two files: the first one is rotated where it has come to the limit.
+pub fn rotation()
+    ensures { report_of_lines rotation_script ≡ text_of_lines rotation_report }
+{}
+
+/// An injector that stops behind an empty epoch, and waits behind the last written one.
+pub fn injector()
+    ensures { report_of_lines injector_script ≡ text_of_lines injector_report }
 {}
 
 /// Scripts that are refused, each for its first bad line.

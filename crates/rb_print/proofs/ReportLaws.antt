@@ -5,7 +5,7 @@ use Rattle.std.specs.List.{flat_map}
 use Rattle.std.proofs.lemmas.Grind.{flat_map-append}
 use Rattle.rb_base.specs.declared.site.SiteId.TheVariants.{A}
 use Rattle.rb_base.specs.declared.outcome.Outcome.{Outcome}
-use Rattle.rb_text_defs.specs.Report.{LogCounts, NamedRows, log_line, outcome_line, report_text, table_lines, text_of_lines}
+use Rattle.rb_text_defs.specs.Report.{LogRows, NamedRows, log_lines, outcome_line, report_text, table_lines, text_of_lines}
 use Rattle.rb_print.proofs.TextLaws.{pieces_mapped}
 
 texts_of_each : {X : Type 0} (g : X → List (List ℕ)) (xs : List X) → text_of_lines (flat_map g xs) ≡ flat_map (λ x. text_of_lines (g x)) xs
@@ -13,18 +13,18 @@ texts_of_each g [] = refl
 texts_of_each g (x ∷ xs) =
     flat_map-append (λ line. line ++ 10 ∷ []) (g x) (flat_map g xs) ∙ ap (λ text. text_of_lines (g x) ++ text) (texts_of_each g xs)
 
--- the report is its title, the line of each event, the line of the log, the lines of each table, and its end
-pub report_pieces : (outcomes : List (ℕ × Outcome)) (log : LogCounts) (tables : List NamedRows) → report_text outcomes log tables
+-- the report is its title, the line of each event, the lines of the log, those of each table, and its end
+pub report_pieces : (outcomes : List (ℕ × Outcome)) (log : LogRows) (tables : List NamedRows) → report_text outcomes log tables
     ≡ text_of_lines (codes "ndb replication report" ∷ [])
     ++ (flat_map (λ lined. outcome_line lined.0 lined.1 ++ 10 ∷ []) outcomes
-    ++ ((log_line A log.files log.epochs log.written ++ 10 ∷ [])
+    ++ (text_of_lines (log_lines A log)
     ++ (flat_map (λ table. text_of_lines (table_lines A table)) tables ++ text_of_lines (codes "end" ∷ []))))
 unfolding report_text
 report_pieces outcomes log tables =
-    let log_text = log_line A log.files log.epochs log.written in
     let end : List (List ℕ) = codes "end" ∷ [] in
     ap (λ (text : List ℕ). text_of_lines (codes "ndb replication report" ∷ []) ++ text)
-    (flat_map-append (λ line. line ++ 10 ∷ []) (map (λ lined. outcome_line lined.0 lined.1) outcomes) (log_text ∷ (flat_map (table_lines A) tables ++ end))
+    (flat_map-append (λ line. line ++ 10 ∷ []) (map (λ lined. outcome_line lined.0 lined.1) outcomes) (log_lines A log ++ (flat_map (table_lines A) tables ++ end))
     ∙ ap₂ ◌++◌ (pieces_mapped (λ line. line ++ 10 ∷ []) (λ lined. outcome_line lined.0 lined.1) outcomes)
-    (ap (λ text. (log_text ++ 10 ∷ []) ++ text)
+    (flat_map-append (λ line. line ++ 10 ∷ []) (log_lines A log) (flat_map (table_lines A) tables ++ end)
+    ∙ ap (λ text. text_of_lines (log_lines A log) ++ text)
     (flat_map-append (λ line. line ++ 10 ∷ []) (flat_map (table_lines A) tables) end ∙ ap (λ text. text ++ text_of_lines end) (texts_of_each (table_lines A) tables))))

@@ -1,11 +1,11 @@
-ghost use Rattle.std.specs.Prelude.{◌≡◌, ◌++◌, ◌∷◌, [], codes, IfOk, OnOk};
+ghost use Rattle.std.specs.Prelude.{◌≡◌, ◌++◌, ◌∷◌, [], codes, length, IfOk, OnOk};
 ghost use Rattle.std.specs.List.{concat, flat_map};
-ghost use Rattle.rb_text_defs.specs.Report.{labelled, letter_of, log_line, outcome_line, row_line, table_lines, text_of_lines};
+ghost use Rattle.rb_text_defs.specs.Report.{index_line, labelled, last_in, letter_of, log_line, log_lines, outcome_line, row_line, table_lines, text_of_lines};
 
 use crate::outcome::put_outcome;
 use crate::put::{Labelled, letter, put, put_number, put_numbers};
 use crate::value::put_row;
-use rb_base::{Bytes, Epoch, NoMemory, Outcome, Row, SiteId};
+use rb_base::{Bytes, Epoch, IndexRow, NoMemory, Outcome, Row, SiteId};
 use std::alloc::Global;
 
 /// An event's line of the report, with its line feed: the number of its line in the script, and what it did. It fails only
@@ -64,28 +64,79 @@ fn put_rows(text: &mut Vec<u8>, rows: &[Row]) -> Result<(), NoMemory>
     Ok(())
 }
 
-/// The line on a site's log, with its line feed. `files` is how many files the log has, `epochs` how many epochs are
-/// written to it, and `written` the last of them, or epoch 0 where there is none. It fails only for want of memory.
+/// The lines of a site's log, each with its line feed: one that counts its files and epochs, and one for each row of its
+/// index. `files` is how many files the log has. It fails only for want of memory.
+#[tactic(auto, using(crate::proofs::TextLaws::pieces_mapped))]
 pub fn print_log(
     alloc: Global,
     site: SiteId,
     files: u32,
-    epochs: u64,
-    written: Epoch,
+    rows: &[IndexRow],
 ) -> Result<Bytes, NoMemory>
-    ensures { IfOk result (λ text. text ≡ log_line site files epochs written.0 ++ 10 ∷ []) }
+    ensures { IfOk result (λ text. text ≡ text_of_lines (log_lines site (record { files = files; rows = rows.now }))) }
 {
     let mut text = Vec::new(alloc);
-    put(&mut text, b"log ")?;
-    put(&mut text, letter(site))?;
+    put_log(&mut text, site, files, rows)?;
+    text.push(b'\n')?;
+    put_index(&mut text, rows)?;
+    Ok(Bytes::from_vec(text))
+}
+
+/// Appends the counts of a log's files and epochs, and its last epoch.
+fn put_log(text: &mut Vec<u8>, site: SiteId, files: u32, rows: &[IndexRow]) -> Result<(), NoMemory>
+    ensures { OnOk result (text.new.items ≡ text.old.items ++ log_line site files (length rows.now) (last_in rows.now)) }
+{
+    put(text, b"log ")?;
+    put(text, letter(site))?;
     put_numbers(
-        &mut text,
+        text,
         &[
             Labelled(b" files=", u64::from(files)),
-            Labelled(b" epochs=", epochs),
-            Labelled(b" written=", written.0),
+            Labelled(b" epochs=", rows.len() as u64),
+            Labelled(b" written=", last_epoch(rows).0),
         ],
     )?;
-    text.push(b'\n')?;
-    Ok(Bytes::from_vec(text))
+    Ok(())
+}
+
+/// The epoch of the last row, or epoch 0 where there is none.
+fn last_epoch(rows: &[IndexRow]) -> Epoch
+    ensures { result.0 ≡ last_in rows.now }
+{
+    match rows.last() {
+        Some(row) => row.epoch,
+        None => Epoch(0),
+    }
+}
+
+/// Appends a line for each row of an index.
+fn put_index(text: &mut Vec<u8>, rows: &[IndexRow]) -> Result<(), NoMemory>
+    ensures { OnOk result (text.new.items ≡ text.old.items ++ flat_map (λ row. index_line row ++ 10 ∷ []) rows.now) }
+{
+    for row in rows {
+        put_index_row(text, row)?;
+        text.push(b'\n')?;
+    }
+    Ok(())
+}
+
+/// Appends a row of an index: its epoch and GCI, where it stands, and how many changes of each kind it has.
+#[tactic(auto, unfolding(rb_text_defs::specs::Report::index_line))]
+fn put_index_row(text: &mut Vec<u8>, row: &IndexRow) -> Result<(), NoMemory>
+    ensures { OnOk result (text.new.items ≡ text.old.items ++ index_line row.now) }
+{
+    put_numbers(
+        text,
+        &[
+            Labelled(b"epoch ", row.epoch.0),
+            Labelled(b" gci=", u64::from(row.gci)),
+            Labelled(b" file=", u64::from(row.file)),
+            Labelled(b" pos=", row.position),
+            Labelled(b" next=", row.next_position),
+            Labelled(b" ins=", u64::from(row.inserts)),
+            Labelled(b" upd=", u64::from(row.updates)),
+            Labelled(b" del=", u64::from(row.deletes)),
+        ],
+    )?;
+    Ok(())
 }

@@ -3,8 +3,8 @@ ghost use Rattle.rb_text_defs.specs.LogText.{Ascend};
 
 use super::*;
 use rb_base::{
-    Bytes, Change, Changes, Columns, Epoch, EpochBody, Kind, Listed, ListedEvents, Mapped,
-    MappedTables, Outcome, Row, SiteId, Value, Values,
+    Bytes, Change, Changes, Columns, Epoch, EpochBody, IndexRow, Kind, Listed, ListedEvents,
+    Mapped, MappedTables, Outcome, Row, SiteId, Value, Values,
 };
 use std::alloc::Global;
 use std::test::Fail;
@@ -78,10 +78,29 @@ fn a_table(rt: HostRuntime) -> Result<(), Fail> {
 
 #[test]
 fn a_log(rt: HostRuntime) -> Result<(), Fail> {
-    let text = print_log(rt.alloc(), SiteId::A, 1, 2, Epoch(4294967296))?;
+    let row = IndexRow {
+        epoch: Epoch(4294967296),
+        orig_epoch: Epoch(4294967296),
+        position: 115,
+        next_position: 456,
+        file: 1,
+        next_file: 1,
+        inserts: 2,
+        updates: 0,
+        deletes: 0,
+        schemaops: 0,
+        orig_server_id: 1,
+        gci: 1,
+    };
+    let text = print_log(rt.alloc(), SiteId::A, 2, &[row])?;
     assert_eq!(rt;
         text.as_slice(),
-        b"log A files=1 epochs=2 written=4294967296\n".as_slice()
+        b"log A files=2 epochs=1 written=4294967296\nepoch 4294967296 gci=1 file=1 pos=115 next=456 ins=2 upd=0 del=0\n".as_slice()
+    );
+    let text = print_log(rt.alloc(), SiteId::A, 1, &[])?;
+    assert_eq!(rt;
+        text.as_slice(),
+        b"log A files=1 epochs=0 written=0\n".as_slice()
     );
     Ok(())
 }

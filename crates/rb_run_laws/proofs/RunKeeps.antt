@@ -30,7 +30,7 @@ use Rattle.rb_text_defs.specs.declared.script.Script.{Script}
 use Rattle.rb_text_defs.specs.Script.{most_changes, most_lines, most_tables}
 use Rattle.rb_text_defs.specs.Legal.{IsLegal, IsLegalEvent, changes_in_event, IsLegalOperation, IsLegalTable}
 use Rattle.rb_play_defs.specs.Fitting.{JournalFits}
-use Rattle.rb_play_defs.specs.Step.{Progress, tx_changes, Stepped, unchanged, refused, rows_of, committed, commit_outcome, tx_step, closed, close_step, fed_by, delivered_message, answer_outcome, deliver_step, undelivered, after_delivery, all_delivered, delivery_of_all, deliver_all_step, injection_of, inject_step, needed_of, takeover_step, loss_step, fail_step, restart_step, resend_step, unless_lost, site_step}
+use Rattle.rb_play_defs.specs.Step.{Progress, tx_changes, Stepped, unchanged, refused, rows_of, committed, commit_outcome, tx_step, closed, close_step, fed_by, delivered_message, answer_outcome, deliver_step, undelivered, after_delivery, all_delivered, delivery_of_all, deliver_all_step, injection_of, inject_step, needed_of, takeover_step, loss_step, fail_step, restart_step, resend_step, injector_step, unless_lost, site_step}
 use Rattle.rb_play_defs.specs.Play.{shape_of, log_step, event_step, Played, played_on, not_played, play_of, play, log_of}
 use Rattle.rb_play_defs.proofs.Fits.{all_filtered, changes_fit}
 use Rattle.rb_read_defs.specs.Readable.{IsReadable}
@@ -124,6 +124,11 @@ alike_resend : (shape : Shape) (run : Progress) → Alike run (resend_step shape
 unfolding resend_step
 alike_resend shape run = record { journal = refl; opened = refl; drawn = refl }
 
+-- an injector that stops
+alike_injector : (shape : Shape) (run : Progress) → Alike run (injector_step shape run).run
+unfolding injector_step
+alike_injector shape run = record { journal = refl; opened = refl; drawn = refl }
+
 -- an event that a lost site refuses
 alike_unless : (run : Progress) (step : Stepped) → Alike run step.run → Alike run (unless_lost run step).run
 alike_unless run step alike = go run.lost
@@ -207,6 +212,7 @@ keeps_event buckets schemas nodes left to_come run (events.Restart site node) le
     keeps_alike (primary buckets schemas) left to_come 0 run (unless_lost run (restart_step node run)).run (alike_unless run (restart_step node run) (alike_restart node run)) keeps
 keeps_event buckets schemas nodes left to_come run (events.Resend site) legal keeps =
     keeps_alike (primary buckets schemas) left to_come 0 run (unless_lost run (resend_step (primary buckets schemas) run)).run (alike_unless run (resend_step (primary buckets schemas) run) (alike_resend (primary buckets schemas) run)) keeps
+keeps_event buckets schemas nodes left to_come run (events.Injector site) legal keeps = keeps_alike (primary buckets schemas) left to_come 0 run (injector_step (primary buckets schemas) run).run (alike_injector (primary buckets schemas) run) keeps
 keeps_event buckets schemas nodes left to_come run event legal keeps = keeps_alike (primary buckets schemas) left to_come 0 run run (alike_self run) keeps
 
 keeps_on : (buckets : ℕ) (schemas : List Schema) (nodes : ℕ) (played : Played) (lined : List LinedEvent) → AllByRecursion (λ lined. IsLegalEvent schemas nodes lined.event) lined → Keeps (primary buckets schemas) (length lined) (sum_by (λ lined. changes_in_event lined.event) lined) played.run →

@@ -309,7 +309,7 @@ fn restarts_in(event: &Event) -> u32
     ensures few { result ≤ 1 }
 {
     match event {
-        Event::Fail(..) | Event::Restart(..) | Event::Resend(_) => 1,
+        Event::Fail(..) | Event::Restart(..) | Event::Resend(_) | Event::Injector(_) => 1,
         _ => 0,
     }
 }

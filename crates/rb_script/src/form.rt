@@ -66,6 +66,8 @@ fn form_from<'a>(
         Ok(restart_line(words))
     } else if first.is(b"resend") {
         Ok(resend_line(words))
+    } else if first.is(b"injector") {
+        Ok(injector_line(words))
     } else {
         Ok(None)
     }
@@ -280,6 +282,15 @@ fn resend_line<'a>(words: &[Word<'_>]) -> Option<Form<'a>>
 {
     let site = only_site(words)?;
     Some(Form::Event(Event::Resend(site)))
+}
+
+/// A stop of the injector of the site that these words name, whose log is opened again.
+#[tactic(auto, using(crate::proofs::FormLaws::site_event_only))]
+fn injector_line<'a>(words: &[Word<'_>]) -> Option<Form<'a>>
+    ensures { option_map form_seen result ≡ site_event (λ site. events.Injector site) (map word_of words.now) }
+{
+    let site = only_site(words)?;
+    Some(Form::Event(Event::Injector(site)))
 }
 
 /// The site and the node of words that are nothing else.

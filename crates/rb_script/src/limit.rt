@@ -1,5 +1,5 @@
 ghost use Rattle.std.specs.Prelude.{◌≡◌, ◌+◌, ◌*◌, ◌^◌, ◌≤◌, ◌==◌, [], ◌∷◌, nat_le, nat_lt, ◌&&◌, not, length, map, IfNone};
-ghost use Rattle.rb_text_defs.specs.Script.{default_limit, most_changes, most_columns, most_groups, most_lines, most_replicas, most_row_bytes, most_tables, most_tx_changes, most_work, column_bytes, row_bytes};
+ghost use Rattle.rb_text_defs.specs.Script.{least_limit, most_changes, most_limit, most_columns, most_groups, most_lines, most_replicas, most_row_bytes, most_tables, most_tx_changes, most_work, column_bytes, row_bytes};
 ghost use Rattle.rb_base.specs.declared.schema.Column.TheVariants as columns;
 ghost use Rattle.rb_text_defs.specs.declared.script.Limit.TheVariants as limits;
 ghost use Rattle.rb_script.specs.Seen.{column_seen};
@@ -28,9 +28,13 @@ const MOST_REPLICAS: u32 = 4;
 /// The length in bytes from which a site's files are rotated, where no line gives another.
 pub(crate) const DEFAULT_LIMIT: u64 = 1048576;
 
+const LEAST_LIMIT: u64 = 512;
+
+const MOST_LIMIT: u64 = 67108864;
+
 const MOST_TX_CHANGES: u64 = 4096;
 
-const MOST_CHANGES: u64 = 400;
+const MOST_CHANGES: u64 = 100000;
 
 const MOST_WORK: u64 = 4000000;
 
@@ -41,7 +45,7 @@ const CLOSE_WORK: u32 = 32;
 pub(crate) fn site_limit(shape: SiteSetup) -> Option<Limit>
     ensures { result ≡ first_passed ((not (nat_le 1 shape.groups && nat_le shape.groups most_groups), limits.Groups)
         ∷ (not (nat_le 1 shape.replicas && nat_le shape.replicas most_replicas), limits.Replicas)
-        ∷ (not (shape.limit == default_limit), limits.LogLimit) ∷ []) }
+        ∷ (not (nat_le least_limit shape.limit && nat_le shape.limit most_limit), limits.LogLimit) ∷ []) }
 {
     if !is_within(shape.groups, MOST_GROUPS) {
         return Some(Limit::Groups);
@@ -49,7 +53,7 @@ pub(crate) fn site_limit(shape: SiteSetup) -> Option<Limit>
     if !is_within(shape.replicas, MOST_REPLICAS) {
         return Some(Limit::Replicas);
     }
-    if shape.limit != DEFAULT_LIMIT {
+    if shape.limit < LEAST_LIMIT || MOST_LIMIT < shape.limit {
         return Some(Limit::LogLimit);
     }
     None

@@ -5,7 +5,7 @@ use std::test::Fail;
 const NAME_OF_32: &str = "abcdefghijklmnopqrstuvwxyz_12345";
 
 /// Short scripts that are refused, each with its first bad line and what is wrong there.
-const REFUSED: [(&[u8], u32, ScriptKind); 67] = [
+const REFUSED: [(&[u8], u32, ScriptKind); 68] = [
     (b"frob", 1, ScriptKind::Syntax),
     (b"tx A ins t 1 1", 1, ScriptKind::Setup),
     (b"deliver A 18446744073709551616", 1, ScriptKind::Syntax),
@@ -42,7 +42,12 @@ const REFUSED: [(&[u8], u32, ScriptKind); 67] = [
         ScriptKind::Limit(Limit::Replicas),
     ),
     (
-        b"site A groups 8 replicas 4 limit 512",
+        b"site A groups 8 replicas 4 limit 511",
+        1,
+        ScriptKind::Limit(Limit::LogLimit),
+    ),
+    (
+        b"site A groups 8 replicas 4 limit 67108865",
         1,
         ScriptKind::Limit(Limit::LogLimit),
     ),
@@ -272,14 +277,17 @@ fn reads_events(rt: HostRuntime) -> Result<(), Fail> {
 
 #[test]
 fn reads_failures(rt: HostRuntime) -> Result<(), Fail> {
-    let script = parse(rt.alloc(), b"fail A 0\nrestart A 0\nresend A").or(Err("it is a script"))?;
-    let [fail, restart, resend] = script.events.as_slice() else {
+    let script = parse(rt.alloc(), b"fail A 0\nrestart A 0\nresend A\ninjector A").or(Err(
+        "it is a script",
+    ))?;
+    let [fail, restart, resend, injector] = script.events.as_slice() else {
         return Err("it has three events".into());
     };
-    assert!(rt; fail.line == 1 && restart.line == 2 && resend.line == 3);
+    assert!(rt; fail.line == 1 && restart.line == 2 && resend.line == 3 && injector.line == 4);
     assert!(rt; matches!(fail.event, Event::Fail(SiteId::A, 0)));
     assert!(rt; matches!(restart.event, Event::Restart(SiteId::A, 0)));
     assert!(rt; matches!(resend.event, Event::Resend(SiteId::A)));
+    assert!(rt; matches!(injector.event, Event::Injector(SiteId::A)));
     Ok(())
 }
 
@@ -353,11 +361,17 @@ fn counts_lines(rt: HostRuntime) -> Result<(), Fail> {
 
 #[test]
 fn counts_changes(rt: HostRuntime) -> Result<(), Fail> {
+    // A transaction of 4,000 changes, 25 times.
+    let part = repeated(&rt, b"tx A ins t 1 1", b" ; ins t 1 1", 3999, b"\n")?;
     let last = b"log A\ntx A ins t 1 1\n";
     let kind = ScriptKind::Limit(Limit::Changes);
     assert_eq!(rt;
-        refusal(&rt, b"table t num\n", b"tx A ins t 1 1\n", 400, last)?,
-        Some(ParseFault::Bad { line: 403, kind })
+        refusal(&rt, b"table t num\n", part.as_slice(), 25, last)?,
+        Some(ParseFault::Bad { line: 28, kind })
+    );
+    assert_eq!(rt;
+        refusal(&rt, b"table t num\n", part.as_slice(), 25, b"log A\n")?,
+        None
     );
     let first = b"table t num\ntx A ins t 1 1";
     let kind = ScriptKind::Syntax;

@@ -1,31 +1,32 @@
 -- A site at the start.
-use Rattle.std.proofs.Common.{◌≡◌, ℕ, zero, suc, ◌+◌, ◌*◌, ◌<◌, ◌≤◌, List, [], ◌∷◌, length, map, refl, sym, ap, ◌∙◌, arith, inl}
+use Rattle.std.proofs.Common.{◌≡◌, ℕ, zero, suc, ◌+◌, ◌*◌, ◌<◌, List, [], ◌∷◌, length, map, refl, sym, ap, subst, ◌∙◌, arith}
 use Rattle.rb_base.specs.declared.site.SiteId.TheVariants.{A}
-use Rattle.std.specs.Prelude.{Some, None, unwrap_or}
-use Rattle.rb_log_defs.specs.File.{file_start}
-use Rattle.rb_log_defs.proofs.Files.{one_file_first}
-use Rattle.rb_text_defs.specs.Script.{default_limit}
+use Rattle.std.specs.Prelude.{All, Result, Ok, Err, OnErr, Some, None, unwrap_or}
 use Rattle.rb_journal_defs.specs.Body.{Shape, mapped_table, mapped_tables, numbers_below}
 use Rattle.rb_journal_defs.specs.Clock.{first_epoch}
 use Rattle.rb_store.specs.Tables.{rows_in, held_at, tables_in}
 use Rattle.rb_store.specs.declared.tables.Tables.{Tables}
 use Rattle.std.specs.List.{enumerate_from, slice_get}
 use Rattle.std.proofs.lemmas.List.{length-map}
-use Rattle.rb_base.specs.Site.{server_of}
 use Rattle.rb_base.specs.declared.schema.Schema.{Schema}
-use Rattle.rb_log_defs.proofs.Sizes.{format_length}
-use Rattle.rb_evbuf.specs.Buffer.{StandsFor}
+use Rattle.rb_base.specs.declared.schema.Mapped.{Mapped}
+use Rattle.rb_log_defs.specs.Fits.{CanBeMapped}
+use Rattle.rb_device_defs.specs.Index.{IsIndexImage}
+use Rattle.rb_device_defs.specs.Image.{IsLogImage}
+use Rattle.rb_device_defs.proofs.ImageLaws.{image_of_none}
+use Rattle.rb_inject.specs.Injector as inject
+use Rattle.rb_inject.specs.Injector.{IsLogSetup}
 use Rattle.rb_message_defs.specs.Nodes.{node_from, down}
-use Rattle.rb_play_defs.specs.Step.{nodes_at_first, beginning, failed_in}
+use Rattle.rb_play_defs.specs.Step.{nodes_at_first, beginning, failed_in, written_bodies}
 use Rattle.rb_play_defs.proofs.Sounds.{sound_beginning}
 use Rattle.rb_play_defs.proofs.Covering.{covered_beginning}
-use Rattle.rb_site.specs.Fault.{LeavesPart}
 use Rattle.rb_site.specs.Nodes.{nothing_done, HoldsNodes}
 use Rattle.rb_site.specs.Outbox.{HoldsSent, nodes_in}
-use Rattle.rb_site.specs.Site.{IsSite, AreDeclared, shape_of, loss_of}
-use Rattle.rb_site.specs.declared.fault.SiteFault.{SiteFault}
+use Rattle.rb_site.specs.Site.{AreDeclared, shape_of, loss_of}
+use Rattle.rb_site.specs.Stepped.{IsStoppedSite}
+use Rattle.rb_site.specs.declared.stepped.StoppedSite.{StoppedSite}
 use Rattle.rb_site.specs.declared.outbox.Outbox.{Outbox}
-use Rattle.rb_site.specs.declared.site.Site.{Site}
+use Rattle.rb_site.proofs.LogLaws.{log_setup_is}
 use Rattle.rb_site.proofs.TakeLaws.{owners_covered}
 
 -- no node has failed
@@ -51,14 +52,12 @@ pub each_some : (groups replicas : ℕ) → 0 < groups * replicas → 0 < replic
 each_some groups zero some = absurd (omega arith)
 each_some groups (suc replicas) some = omega arith
 
--- a site whose file has its start alone
-pub site_begins : (schemas : List Schema) (groups replicas : ℕ) (site : Site) (file : List ℕ) → AreDeclared (shape_of schemas groups replicas) → 0 < groups * replicas → site.id ≡ A → site.mapped ≡ mapped_tables schemas →
-    site.clock ≡ record { opened = first_epoch; previous = 0; drawn = 0 } → ((t k : ℕ) → rows_in site.tables t k ≡ None) → tables_in site.tables ≡ length (mapped_tables schemas) →
-    HoldsNodes site.nodes (groups * replicas) (nothing_done first_epoch (nodes_at_first groups replicas)) → loss_of site.lost ≡ None → HoldsSent site.outbox [] [] (λ node. 0) → nodes_in site.outbox ≡ groups * replicas →
-    StandsFor site.events (record { buckets = groups * replicas; last = 0; received = [] }) →
-    site.log.written ≡ 0 → site.log.last.0 ≡ 0 → file ≡ file_start A → site.log.length ≡ length (file_start A) → length (file_start A) ≤ 115 → site.made ≡ 0 →
-    IsSite (shape_of schemas groups replicas) site file (beginning groups replicas)
-site_begins schemas groups replicas site file declared some id mapped clock rows count nodes lost outbox senders events written last is size small made =
+-- a site at its start, without an injector
+pub rest_begins : (schemas : List Schema) (groups replicas : ℕ) (rest : StoppedSite) → AreDeclared (shape_of schemas groups replicas) → 0 < groups * replicas → rest.id ≡ A → rest.mapped ≡ mapped_tables schemas →
+    rest.clock ≡ record { opened = first_epoch; previous = 0; drawn = 0 } → ((t k : ℕ) → rows_in rest.tables t k ≡ None) → tables_in rest.tables ≡ length (mapped_tables schemas) →
+    HoldsNodes rest.nodes (groups * replicas) (nothing_done first_epoch (nodes_at_first groups replicas)) → loss_of rest.lost ≡ None → HoldsSent rest.outbox [] [] (λ node. 0) → nodes_in rest.outbox ≡ groups * replicas →
+    rest.made ≡ 0 → IsStoppedSite (shape_of schemas groups replicas) rest (beginning groups replicas)
+rest_begins schemas groups replicas rest declared some id mapped clock rows count nodes lost outbox senders made =
     let shape : Shape = shape_of schemas groups replicas in record {
       declared = declared;
       sound = sound_beginning shape groups replicas refl some (each_some groups replicas some);
@@ -71,26 +70,11 @@ site_begins schemas groups replicas site file declared some id mapped clock rows
       nodes = nodes;
       covered = owners_covered shape (beginning groups replicas) (covered_beginning shape groups replicas refl);
       lost = lost;
-      outbox = nothing_sent site.outbox (λ node. 0) (failed_in (beginning groups replicas)) (λ node. none_failed (numbers_below (groups * replicas)) node) outbox;
+      outbox = nothing_sent rest.outbox (λ node. 0) (failed_in (beginning groups replicas)) (λ node. none_failed (numbers_below (groups * replicas)) node) outbox;
       senders = senders;
-      events = events;
-      written = written;
-      last = last;
-      log = one_file_first A default_limit ∙ ap (λ (f : List ℕ). f ∷ []) (sym is);
-      length_is = size ∙ sym (ap length is);
       made = made;
       few = omega arith;
-      size = (let n = ap length is in omega arith);
     }
-
--- a file that nothing was written to
-pub leaves_empty : (file : List ℕ) (fault : SiteFault) → file ≡ [] → LeavesPart [] file fault
-leaves_empty file fault empty = inl ([], (λ _. refl), record { room = omega arith; bytes = empty })
-
--- how long the start of a file is
-pub start_length : length (file_start A) ≤ 115
-unfolding file_start
-start_length = omega (arith, format_length (server_of A) 4)
 
 -- empty tables have no rows
 pub no_rows : (tables : Tables) → ((t k : ℕ) → held_at tables t k ≡ None) → (t k : ℕ) → rows_in tables t k ≡ None
@@ -102,3 +86,34 @@ numbered_length n (s ∷ schemas) = let h = numbered_length (n + 1) schemas in o
 
 pub as_many : (schemas : List Schema) → length schemas ≡ length (mapped_tables schemas)
 as_many schemas = numbered_length 1 schemas ∙ sym (length-map (enumerate_from 1 schemas) mapped_table)
+
+-- what is left at an Err
+pub on_err : {X E T : Type 0} → (result : Result X E) → T → OnErr result T
+on_err (Ok x) all = tt
+on_err (Err e) all = all
+
+-- the same fault of another call
+fault_in : {X E : Type 0} → Result X E → E → E
+fault_in (Ok x) other = other
+fault_in (Err e) other = e
+
+pub err_same : {X : Type 0} (Y : Type 0) {E : Type 0} (result : Result X E) (e f : E) → result ≡ Err e → result ≡ Err f → (other : Result Y E) → other ≡ Err e → other ≡ Err f
+unfolding fault_in
+err_same Y result e f one two other is =
+    let same : e ≡ f = sym (ap (λ (r : Result _ _). fault_in r e) one) ∙ ap (λ (r : Result _ _). fault_in r e) two in
+    is ∙ ap Err same
+
+-- an empty device is an image of a log without an epoch
+pub empty_is_image : (limit : ℕ) (seen : ℕ → List ℕ) → ((file : ℕ) → seen file ≡ []) → IsLogImage A limit [] seen
+empty_is_image limit seen empty = image_of_none A limit seen (subst (IsIndexImage []) (sym (empty 0)) (record { behind = []; bytes = refl; more = λ some. absurd (some refl); ended = refl }))
+
+-- what its log is written for
+pub setup_begins : (schemas : List Schema) (groups replicas limit : ℕ) (rest : StoppedSite) (tables : List Mapped) → IsStoppedSite (shape_of schemas groups replicas) rest (beginning groups replicas) → inject.IsLimit limit → length schemas < 65536 →
+    rest.limit ≡ limit → tables ≡ rest.mapped → IsLogSetup (record { site = rest.id; limit = rest.limit; tables = tables })
+setup_begins schemas groups replicas limit rest tables held legal few is named =
+    let same : tables ≡ mapped_tables schemas = named ∙ held.mapped in
+    let all = log_setup_is (shape_of schemas groups replicas) limit held.declared legal (omega (arith, few, as_many schemas)) in record {
+      limit = subst inject.IsLimit (sym is) legal;
+      tables = subst (All CanBeMapped) (sym same) all.tables;
+      few = omega (arith, ap length same, as_many schemas, few);
+    }

@@ -110,7 +110,7 @@ all_writable tables whole (c ∷ changes) small fits named =
       all_writable tables whole changes small fits.1 named.1,
     )
 
-can_be_mapped : (table : Mapped) → IsSmallTable table → CanBeMapped table
+pub can_be_mapped : (table : Mapped) → IsSmallTable table → CanBeMapped table
 can_be_mapped table small = let s = small.schema in let n = small.name in let f = small.few in record { schema = omega arith; name = omega arith; some = small.some; few = omega arith }
 
 narrow : (table : Mapped) → IsSmallTable table → IsNarrow table
@@ -135,16 +135,21 @@ pub at_least_one : (changes : List Change) → is_some_change changes ≡ true �
 at_least_one [] same = absurd (let g : false ≡ true = same in cc)
 at_least_one (c ∷ changes) same = omega arith
 
--- and takes at most so many bytes for each of its changes
-pub few_bytes : (shape : Shape) (e : ℕ) (j : Journal) (start : ℕ) → AreDeclared shape → JournalFits shape j → is_some_change (body_of shape e j).changes ≡ true → length (epoch_bytes (body_of shape e j) start) ≤ 2382 * length (body_of shape e j).changes
+-- it has no more tables than changes
+few_tables : (shape : Shape) (e : ℕ) (j : Journal) → AreDeclared shape → length (body_of shape e j).tables ≤ length (body_of shape e j).changes
+unfolding body_of
+few_tables shape e j declared =
+    let changes = body_changes shape e j in
+    subst (λ (ts : List Mapped). length (filter (is_named_in changes) ts) ≤ length changes) (sym declared.tables) (tables_length declared.schemas changes)
+
+-- and takes few bytes for each of its changes
+pub few_bytes : (shape : Shape) (e : ℕ) (j : Journal) (start : ℕ) → AreDeclared shape → JournalFits shape j → length (epoch_bytes (body_of shape e j) start) ≤ 218 + 2164 * length (body_of shape e j).changes
 unfolding body_of IsWritable
-few_bytes shape e j start declared fits some =
+few_bytes shape e j start declared fits =
     let changes = body_changes shape e j in
     let tables = filter (is_named_in changes) shape.tables in
     let writable = all_writable shape.tables changes changes declared.small (body_fits shape e j fits) (named_here changes) in
     let small = all_filtered IsSmallTable (is_named_in changes) shape.tables declared.small in
     let bound = epoch_bound (body_of shape e j) start (all_more IsSmallTable IsNarrow tables narrow small)
     (all_more (IsWritable tables) (λ change. AreShort (columns_of tables change.table) × Fits (columns_of tables change.table) change) changes (λ change held. (held.0, held.1)) writable) in
-    let few : length tables ≤ length changes = subst (λ (ts : List Mapped). length (filter (is_named_in changes) ts) ≤ length changes) (sym declared.tables) (tables_length declared.schemas changes) in
-    let one : 0 < length changes = at_least_one changes some in
-    omega arith
+    omega (arith, bound, few_tables shape e j declared)

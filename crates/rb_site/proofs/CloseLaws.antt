@@ -1,5 +1,5 @@
 -- What the close of an epoch leaves of a site.
-use Rattle.std.proofs.Common.{◌≡◌, ℕ, ◌+◌, ◌*◌, ◌/◌, ◌<◌, ◌≤◌, Bool, List, [], ◌∷◌, ◌++◌, length, map, take, filter, refl, sym, ap, subst, ◌∙◌, arith, lt-ltb}
+use Rattle.std.proofs.Common.{◌≡◌, ℕ, ◌/◌, ◌<◌, Bool, List, [], ◌∷◌, ◌++◌, length, map, take, filter, refl, sym, ap, subst, ◌∙◌, arith, lt-ltb}
 use Rattle.std.specs.Prelude.{nat_lt, sum_by, Option, None, unwrap_or}
 use Rattle.std.specs.List.{AllByRecursion, flat_map, last_or}
 use Rattle.std.proofs.Math.Path.{fun_ext}
@@ -23,16 +23,16 @@ use Rattle.rb_evbuf.specs.Buffer.{StandsFor}
 use Rattle.rb_evbuf.specs.declared.buffer.EventBuffer.{EventBuffer}
 use Rattle.rb_play_defs.specs.Step.{Progress, only_closed, sent_at_close, closed, close_step, fed_by, written_bodies, last_epoch, acknowledged_epoch, needed_of, failed_in}
 use Rattle.rb_play_defs.specs.Sound.{IsSound}
-use Rattle.rb_play_defs.specs.Part.{IsLogOf}
+use Rattle.rb_inject.specs.Injector as inject
+use Rattle.rb_inject.specs.declared.injector.Injector.{Injector}
 use Rattle.rb_play_defs.proofs.Sounds.{closed_all_below, epoch_rises, sound_close}
 use Rattle.rb_play_defs.proofs.Grows.{written_within}
 use Rattle.rb_play_defs.proofs.Covering.{AllCovered, acknowledged_below, needed_at_close, covered_returns}
 use Rattle.rb_site.specs.Nodes as site
 use Rattle.rb_site.specs.Nodes.{Buffered, needed_by, with_close, HoldsNodes, CanCloseAll}
 use Rattle.rb_site.specs.Outbox.{HoldsSent, count_in, nodes_in}
-use Rattle.rb_site.specs.Site.{IsSite, buffered_by, closes_of, loss_of, most_of_change, changes_in_bodies}
+use Rattle.rb_site.specs.Site.{IsSite, buffered_by, closes_of, loss_of, setup_of}
 use Rattle.rb_site.specs.declared.site.Site.{Site}
-use Rattle.rb_site.specs.declared.site.LogEnd.{LogEnd}
 use Rattle.rb_site.proofs.RowLaws.{last_end}
 use Rattle.rb_site.proofs.ShareLaws.{needed_share}
 use Rattle.rb_site.proofs.PointLaws.{can_count, cover_at_site, cover_in_run}
@@ -66,11 +66,11 @@ closes_behind o j below = sym (
     ∙ ap (λ (p : ℕ). closes_of j ++ (o, p) ∷ []) (previous_stays o o j (omega arith)))
 
 -- the open epoch can close
-pub can_close : (shape : Shape) (gci : Bool) (site : Site) (file : List ℕ) (run : Progress) (next : ℕ) → IsSite shape site file run → run.lost ≡ None → next ≡ epoch_after gci site.clock.opened → CanCloseAll site.nodes next
-can_close shape gci site file run next held none is =
+pub can_close : (shape : Shape) (gci : Bool) (site : Site) (seen : ℕ → List ℕ) (run : Progress) (next : ℕ) → IsSite shape site seen run → run.lost ≡ None → next ≡ epoch_after gci site.clock.opened → CanCloseAll site.nodes next
+can_close shape gci site seen run next held none is =
     let above : run.opened < epoch_after gci run.opened = epoch_rises gci run.opened in
     let same : next ≡ epoch_after gci run.opened = is ∙ ap (λ (hand : Hand). epoch_after gci hand.opened) held.clock in
-    (shape.buckets, buffered_by shape run, held.nodes, held.covered none, can_count shape site file run held, omega arith)
+    (shape.buckets, buffered_by shape run, held.nodes, held.covered none, can_count shape site seen run held, omega arith)
 
 -- what is written stays
 written_stays : (shape : Shape) (gci : Bool) (run : Progress) → IsSound shape run → written_bodies shape (closed shape gci run) ≡ written_bodies shape run
@@ -108,27 +108,27 @@ covered_closed shape gci run sound all =
     subst (λ (n : ℕ). AllCovered shape.buckets n (with_returns n run.nodes)) (sym needed) (covered_returns shape.buckets (needed_of shape run) run.nodes sound.nodes.owners all)
 
 -- what the nodes send at a close is what the run sends
-pub closing_are : (shape : Shape) (gci : Bool) (old : Site) (file : List ℕ) (run : Progress) (prev next : Epoch) (messages : List Sent) → IsSite shape old file run →
+pub closing_are : (shape : Shape) (gci : Bool) (old : Site) (seen : ℕ → List ℕ) (run : Progress) (prev next : Epoch) (messages : List Sent) → IsSite shape old seen run →
     prev.0 ≡ old.clock.previous → next.0 ≡ epoch_after gci old.clock.opened →
     ((b : ℕ) (s : Buffered) → HoldsNodes old.nodes b s → messages ≡ site.sent_at_close b s prev.0 next.0 (length old.nodes.groups.items)) →
     messages ≡ flat_map (sent_at_close shape run (only_closed gci run)) (numbers_below (shape.buckets / run.nodes.replicas))
-closing_are shape gci old file run prev next messages held is_prev is_next sends =
+closing_are shape gci old seen run prev next messages held is_prev is_next sends =
     let before : prev.0 ≡ previous_closed run.opened run.journal = is_prev ∙ ap (λ (h : Hand). h.previous) held.clock in
     let after : next.0 ≡ epoch_after gci run.opened = is_next ∙ ap (λ (h : Hand). epoch_after gci h.opened) held.clock in
     sends shape.buckets (buffered_by shape run) held.nodes
     ∙ sent_closing shape gci run old.nodes prev.0 next.0 held.nodes before (buffered_behind shape gci run prev.0 next.0 held.sound before after)
 
 -- and who sends it is one of the nodes
-pub closing_from : (shape : Shape) (gci : Bool) (old : Site) (file : List ℕ) (run : Progress) (prev next : Epoch) (messages : List Sent) → IsSite shape old file run →
+pub closing_from : (shape : Shape) (gci : Bool) (old : Site) (seen : ℕ → List ℕ) (run : Progress) (prev next : Epoch) (messages : List Sent) → IsSite shape old seen run →
     prev.0 ≡ old.clock.previous → next.0 ≡ epoch_after gci old.clock.opened →
     ((b : ℕ) (s : Buffered) → HoldsNodes old.nodes b s → messages ≡ site.sent_at_close b s prev.0 next.0 (length old.nodes.groups.items)) →
     AllByRecursion (λ message. message.sender < nodes_in old.outbox) messages
-closing_from shape gci old file run prev next messages held is_prev is_next sends =
+closing_from shape gci old seen run prev next messages held is_prev is_next sends =
     subst (λ (n : ℕ). AllByRecursion (λ (message : Sent). message.sender < n) messages) (sym held.senders)
-    (subst (AllByRecursion (λ (message : Sent). message.sender < shape.buckets)) (sym (closing_are shape gci old file run prev next messages held is_prev is_next sends)) (closing_senders shape gci run old.nodes held.nodes))
+    (subst (AllByRecursion (λ (message : Sent). message.sender < shape.buckets)) (sym (closing_are shape gci old seen run prev next messages held is_prev is_next sends)) (closing_senders shape gci run old.nodes held.nodes))
 
 -- a site whose epoch closed, however its parts are made
-pub site_closed : (shape : Shape) (gci : Bool) (old new : Site) (file : List ℕ) (run : Progress) (prev next : Epoch) (messages : List Sent) → IsSite shape old file run →
+pub site_closed : (shape : Shape) (gci : Bool) (old new : Site) (seen : ℕ → List ℕ) (run : Progress) (prev next : Epoch) (messages : List Sent) → IsSite shape old seen run →
     prev.0 ≡ old.clock.previous → next.0 ≡ epoch_after gci old.clock.opened →
     new.id ≡ old.id → new.mapped ≡ old.mapped → new.clock ≡ record { opened = epoch_after gci old.clock.opened; previous = old.clock.opened; drawn = old.clock.drawn } →
     new.tables ≡ old.tables →
@@ -136,13 +136,13 @@ pub site_closed : (shape : Shape) (gci : Bool) (old new : Site) (file : List ℕ
     ((b : ℕ) (s : Buffered) → HoldsNodes old.nodes b s → messages ≡ site.sent_at_close b s prev.0 next.0 (length old.nodes.groups.items)) →
     ((ss : List Sent) (ds : List ℕ) (fa : ℕ → ℕ) → HoldsSent old.outbox ss ds fa → HoldsSent new.outbox (ss ++ messages) ds fa) →
     nodes_in new.outbox ≡ nodes_in old.outbox →
-    new.events ≡ old.events → new.log ≡ old.log → new.lost ≡ old.lost → new.made ≡ old.made → IsSite shape new file (closed shape gci run)
-site_closed shape gci old new file run prev next messages held is_prev is_next id mapped clock tables nodes sends outbox senders events log lost made =
+    new.events ≡ old.events → new.injector ≡ old.injector → new.lost ≡ old.lost → new.made ≡ old.made → IsSite shape new seen (closed shape gci run)
+site_closed shape gci old new seen run prev next messages held is_prev is_next id mapped clock tables nodes sends outbox senders events log lost made =
     let o = run.opened in
     let before : prev.0 ≡ previous_closed run.opened run.journal = is_prev ∙ ap (λ (h : Hand). h.previous) held.clock in
     let after : next.0 ≡ epoch_after gci run.opened = is_next ∙ ap (λ (h : Hand). epoch_after gci h.opened) held.clock in
     let bodies = written_stays shape gci run held.sound in
-    let all = closing_are shape gci old file run prev next messages held is_prev is_next sends in
+    let all = closing_are shape gci old seen run prev next messages held is_prev is_next sends in
     record {
       declared = held.declared;
       sound = sound_close shape gci run held.sound;
@@ -160,22 +160,19 @@ site_closed shape gci old new file run prev next messages held is_prev is_next i
       outbox = subst (λ (ms : List Sent). HoldsSent new.outbox (run.sent ++ ms) run.delivered (failed_in run)) all (outbox run.sent run.delivered (failed_in run) held.outbox);
       senders = senders ∙ held.senders;
       events = subst (λ (b : EventBuffer). StandsFor b (fed_by shape run)) (sym events) held.events;
-      written = ap (λ (l : LogEnd). l.written) log ∙ held.written;
-      last = ap (λ (l : LogEnd). l.last.0) log ∙ held.last ∙ ap last_epoch (sym bodies);
-      log = subst (λ (bs : List EpochBody). IsLogOf bs file) (sym bodies) held.log;
-      length_is = ap (λ (l : LogEnd). l.length) log ∙ held.length_is;
+      log = subst (λ (its : Injector). inject.StandsFor its (setup_of shape its) (written_bodies shape (closed shape gci run)) seen) (sym log)
+          (subst (λ (bs : List EpochBody). inject.StandsFor old.injector (setup_of shape old.injector) bs seen) (sym bodies) held.log);
       made = made ∙ held.made ∙ counted;
       few = (let m = made in let few = held.few in omega arith);
-      size = subst (λ (bs : List EpochBody). length file ≤ 115 + most_of_change * changes_in_bodies bs) (sym bodies) held.size;
     }
   where
     counted : sum_by (λ entry. length (changes_of shape.site entry)) run.journal ≡ sum_by (λ entry. length (changes_of shape.site entry)) (Closed run.opened ∷ run.journal)
     counted = omega (arith, sum_by-cons (λ (entry : Entry). length (changes_of shape.site entry)) (Closed run.opened) run.journal)
 
 -- the same, with its answer
-pub close_is : (shape : Shape) (gci : Bool) (new : Site) (file : List ℕ) (run : Progress) (ended : Epoch) (sent : ℕ) → IsSite shape new file (closed shape gci run) → ended.0 ≡ run.opened → sent ≡ count_in new.outbox →
-    IsSite shape new file (close_step shape gci run).run × (outcomes.Closed ended sent ≡ (close_step shape gci run).outcome)
+pub close_is : (shape : Shape) (gci : Bool) (new : Site) (seen : ℕ → List ℕ) (run : Progress) (ended : Epoch) (sent : ℕ) → IsSite shape new seen (closed shape gci run) → ended.0 ≡ run.opened → sent ≡ count_in new.outbox →
+    IsSite shape new seen (close_step shape gci run).run × (outcomes.Closed ended sent ≡ (close_step shape gci run).outcome)
 unfolding close_step
-close_is shape gci new file run ended sent held is count =
+close_is shape gci new seen run ended sent held is count =
     let e : ended ≡ record { 0 = run.opened } = ap (λ (n : ℕ). record { 0 = n }) is in
     (held, ap (λ (x : Epoch). outcomes.Closed x sent) e ∙ ap (outcomes.Closed (record { 0 = run.opened })) (count ∙ ap length held.outbox.sent_is))

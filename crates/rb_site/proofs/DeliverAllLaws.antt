@@ -28,9 +28,9 @@ pub record AreCounted (shape : Shape) (run now : Progress) (tally : Tally) : Typ
   pub old : tally.outdated + count_by is_old (delivery_outcomes shape (undelivered now) now) ≡ count_by is_old (delivery_outcomes shape (undelivered run) run)
 
 -- some of the places that waited are delivered
-pub record IsOnTheWay (shape : Shape) (file : List ℕ) (run : Progress) (site : Site) (tally : Tally) : Type 0 where
+pub record IsOnTheWay (shape : Shape) (seen : ℕ → List ℕ) (run : Progress) (site : Site) (tally : Tally) : Type 0 where
   pub now : Progress
-  pub held : IsSite shape site file now
+  pub held : IsSite shape site seen now
   pub goal : all_delivered shape (undelivered now) now ≡ all_delivered shape (undelivered run) run
   pub counted : AreCounted shape run now tally
   pub few : sum_of tally + length (undelivered now) ≤ length now.sent
@@ -40,8 +40,8 @@ numbers_length zero = refl
 numbers_length (suc n) = let s = length-append (numbers_below n) (n ∷ []) in let h = numbers_length n in omega arith
 
 -- at the start none is
-pub way_begins : (shape : Shape) (file : List ℕ) (run : Progress) (site : Site) → IsSite shape site file run → IsOnTheWay shape file run site (record { kept = 0; known = 0; outdated = 0 })
-way_begins shape file run site held = record {
+pub way_begins : (shape : Shape) (seen : ℕ → List ℕ) (run : Progress) (site : Site) → IsSite shape site seen run → IsOnTheWay shape seen run site (record { kept = 0; known = 0; outdated = 0 })
+way_begins shape seen run site held = record {
   now = run;
   held = held;
   goal = refl;
@@ -50,11 +50,11 @@ way_begins shape file run site held = record {
 }
 
 -- a site whose outbox was looked at stands for the same
-pub site_looked : (shape : Shape) (old new : Site) (file : List ℕ) (run : Progress) → IsSite shape old file run →
+pub site_looked : (shape : Shape) (old new : Site) (seen : ℕ → List ℕ) (run : Progress) → IsSite shape old seen run →
     ((ss : List Sent) (ds : List ℕ) (failed_at : ℕ → ℕ) → HoldsSent old.outbox ss ds failed_at → HoldsSent new.outbox ss ds failed_at) →
-    new.outbox.failed ≡ old.outbox.failed → new ≡ record old { outbox = new.outbox } → IsSite shape new file run
-site_looked shape old new file run held outbox failed rest =
-    subst (λ (s : Site). IsSite shape s file run) (sym rest) (record {
+    new.outbox.failed ≡ old.outbox.failed → new ≡ record old { outbox = new.outbox } → IsSite shape new seen run
+site_looked shape old new seen run held outbox failed rest =
+    subst (λ (s : Site). IsSite shape s seen run) (sym rest) (record {
       declared = held.declared;
       sound = held.sound;
       fits = held.fits;
@@ -69,27 +69,23 @@ site_looked shape old new file run held outbox failed rest =
       outbox = outbox run.sent run.delivered (failed_in run) held.outbox;
       senders = rw failed held.senders;
       events = held.events;
-      written = held.written;
-      last = held.last;
       log = held.log;
-      length_is = held.length_is;
       made = held.made;
       few = held.few;
-      size = held.size;
     })
 
 -- what an outbox answers is the first place that waits
-pub first_waits : (shape : Shape) (file : List ℕ) (run : Progress) (site : Site) (tally : Tally) (next : Option ℕ) (way : IsOnTheWay shape file run site tally) →
+pub first_waits : (shape : Shape) (seen : ℕ → List ℕ) (run : Progress) (site : Site) (tally : Tally) (next : Option ℕ) (way : IsOnTheWay shape seen run site tally) →
     ((ss : List Sent) (ds : List ℕ) (failed_at : ℕ → ℕ) → HoldsSent site.outbox ss ds failed_at → next ≡ first_of (waiting_places failed_at ss ds)) → next ≡ first_of (undelivered way.now)
-first_waits shape file run site tally next way first = first way.now.sent way.now.delivered (failed_in way.now) way.held.outbox
+first_waits shape seen run site tally next way first = first way.now.sent way.now.delivered (failed_in way.now) way.held.outbox
 
 -- and so does what is on its way
-abbrev pub way_looked : (shape : Shape) (file : List ℕ) (run : Progress) (old new : Site) (tally : Tally) → IsOnTheWay shape file run old tally →
+abbrev pub way_looked : (shape : Shape) (seen : ℕ → List ℕ) (run : Progress) (old new : Site) (tally : Tally) → IsOnTheWay shape seen run old tally →
     ((ss : List Sent) (ds : List ℕ) (failed_at : ℕ → ℕ) → HoldsSent old.outbox ss ds failed_at → HoldsSent new.outbox ss ds failed_at) →
-    new.outbox.failed ≡ old.outbox.failed → new ≡ record old { outbox = new.outbox } → IsOnTheWay shape file run new tally
-way_looked shape file run old new tally way outbox failed rest = record {
+    new.outbox.failed ≡ old.outbox.failed → new ≡ record old { outbox = new.outbox } → IsOnTheWay shape seen run new tally
+way_looked shape seen run old new tally way outbox failed rest = record {
   now = way.now;
-  held = site_looked shape old new file way.now way.held outbox failed rest;
+  held = site_looked shape old new seen way.now way.held outbox failed rest;
   goal = way.goal;
   counted = way.counted;
   few = way.few;
@@ -106,9 +102,9 @@ get_within (x ∷ xs) zero l = (x, refl)
 get_within (x ∷ xs) (suc k) l = get_within xs k (omega arith)
 
 -- what is on its way has a first place, where one waits
-pub next_place : (shape : Shape) (file : List ℕ) (run : Progress) (site : Site) (tally : Tally) (place : ℕ) (way : IsOnTheWay shape file run site tally) →
+pub next_place : (shape : Shape) (seen : ℕ → List ℕ) (run : Progress) (site : Site) (tally : Tally) (place : ℕ) (way : IsOnTheWay shape seen run site tally) →
     Some place ≡ first_of (undelivered way.now) → (rest : List ℕ) × (undelivered way.now ≡ place ∷ rest)
-next_place shape file run site tally place way first = first_is (undelivered way.now) place (sym first)
+next_place shape seen run site tally place way first = first_is (undelivered way.now) place (sym first)
 
 counts_more : (test : Outcome → Bool) (before total n : ℕ) (outcome : Outcome) (outcomes : List Outcome) → before + count_by test (outcome ∷ outcomes) ≡ total → n ≡ before + cond (test outcome) 1 0 → n + count_by test outcomes ≡ total
 counts_more test before total n outcome outcomes whole is =
@@ -135,35 +131,35 @@ sum_more answers.Known tally = omega arith
 sum_more answers.Old tally = omega arith
 
 -- the place is one of those that were sent, and its answer can be counted
-pub place_within : (shape : Shape) (file : List ℕ) (run : Progress) (site : Site) (tally : Tally) (place : ℕ) (way : IsOnTheWay shape file run site tally) →
+pub place_within : (shape : Shape) (seen : ℕ → List ℕ) (run : Progress) (site : Site) (tally : Tally) (place : ℕ) (way : IsOnTheWay shape seen run site tally) →
     Some place ≡ first_of (undelivered way.now) → place < count_in site.outbox
-place_within shape file run site tally place way first =
-    let next = next_place shape file run site tally place way first in
+place_within shape seen run site tally place way first =
+    let next = next_place shape seen run site tally place way first in
     let l : place < length way.now.sent = waiting_within (failed_in way.now) way.now.sent place way.now.delivered next.0 next.1 in
     let s : count_in site.outbox ≡ length way.now.sent = ap length way.held.outbox.sent_is in
     omega arith
 
-pub sum_below : (shape : Shape) (file : List ℕ) (run : Progress) (site : Site) (tally : Tally) (place : ℕ) (way : IsOnTheWay shape file run site tally) →
+pub sum_below : (shape : Shape) (seen : ℕ → List ℕ) (run : Progress) (site : Site) (tally : Tally) (place : ℕ) (way : IsOnTheWay shape seen run site tally) →
     Some place ≡ first_of (undelivered way.now) → sum_of tally + 1 ≤ count_in site.outbox
-sum_below shape file run site tally place way first =
-    let next = next_place shape file run site tally place way first in
+sum_below shape seen run site tally place way first =
+    let next = next_place shape seen run site tally place way first in
     let one : length (undelivered way.now) ≡ suc (length next.0) = ap length next.1 in
     let few = way.few in
     let s : count_in site.outbox ≡ length way.now.sent = ap length way.held.outbox.sent_is in
     omega arith
 
 -- one place more is delivered
-pub way_more : (shape : Shape) (file : List ℕ) (run : Progress) (old new : Site) (tally : Tally) (place : ℕ) (answer : Received) (way : IsOnTheWay shape file run old tally) →
+pub way_more : (shape : Shape) (seen : ℕ → List ℕ) (run : Progress) (old new : Site) (tally : Tally) (place : ℕ) (answer : Received) (way : IsOnTheWay shape seen run old tally) →
     Some place ≡ first_of (undelivered way.now) →
-    ((s : Shape) (f : List ℕ) (r : Progress) → IsSite s old f r → IsSite s new f (deliver_step s place r).run × (answer_outcome answer ≡ (deliver_step s place r).outcome)) →
-    IsOnTheWay shape file run new (with_answer answer tally)
-way_more shape file run old new tally place answer way first step =
+    ((s : Shape) (f : ℕ → List ℕ) (r : Progress) → IsSite s old f r → IsSite s new f (deliver_step s place r).run × (answer_outcome answer ≡ (deliver_step s place r).outcome)) →
+    IsOnTheWay shape seen run new (with_answer answer tally)
+way_more shape seen run old new tally place answer way first step =
     let now = way.now in
-    let (rest, waits) = next_place shape file run old tally place way first in
+    let (rest, waits) = next_place shape seen run old tally place way first in
     let within : place < length now.sent = waiting_within (failed_in now) now.sent place now.delivered rest waits in
     let (at, there) = get_within now.sent place within in
     let stepped = deliver_there shape now place at there in
-    let (held, answered) = step shape file now way.held in
+    let (held, answered) = step shape seen now way.held in
     let after = (deliver_step shape place now).run in
     let sent : after.sent ≡ now.sent = ap (λ (s : Stepped). s.run.sent) stepped in
     let later : undelivered after ≡ rest =
@@ -185,17 +181,17 @@ way_more shape file run old new tally place answer way first step =
     }
 
 -- fewer wait then
-pub way_smaller : (shape : Shape) (file : List ℕ) (run : Progress) (old new : Site) (tally : Tally) (place : ℕ) (answer : Received) (way : IsOnTheWay shape file run old tally) →
+pub way_smaller : (shape : Shape) (seen : ℕ → List ℕ) (run : Progress) (old new : Site) (tally : Tally) (place : ℕ) (answer : Received) (way : IsOnTheWay shape seen run old tally) →
     Some place ≡ first_of (undelivered way.now) →
-    ((s : Shape) (f : List ℕ) (r : Progress) → IsSite s old f r → IsSite s new f (deliver_step s place r).run × (answer_outcome answer ≡ (deliver_step s place r).outcome)) →
+    ((s : Shape) (f : ℕ → List ℕ) (r : Progress) → IsSite s old f r → IsSite s new f (deliver_step s place r).run × (answer_outcome answer ≡ (deliver_step s place r).outcome)) →
     still_waiting new.outbox < still_waiting old.outbox
-way_smaller shape file run old new tally place answer way first step =
+way_smaller shape seen run old new tally place answer way first step =
     let now = way.now in
-    let (rest, waits) = next_place shape file run old tally place way first in
+    let (rest, waits) = next_place shape seen run old tally place way first in
     let within : place < length now.sent = waiting_within (failed_in now) now.sent place now.delivered rest waits in
     let (at, there) = get_within now.sent place within in
     let stepped = deliver_there shape now place at there in
-    let (held, answered) = step shape file now way.held in
+    let (held, answered) = step shape seen now way.held in
     let later : undelivered (deliver_step shape place now).run ≡ rest =
     ap (λ (s : Stepped). undelivered s.run) stepped ∙ waiting_rest (failed_in now) now.sent place now.delivered rest waits in
     let before : still_waiting old.outbox ≡ suc (length rest) = still_waiting_is old.outbox now.sent now.delivered (failed_in now) way.held.outbox ∙ ap length waits in
@@ -204,25 +200,25 @@ way_smaller shape file run old new tally place answer way first step =
     omega arith
 
 -- as many wait when the outbox was looked at
-pub waits_same : (shape : Shape) (file : List ℕ) (run : Progress) (old new : Site) (tally : Tally) (way : IsOnTheWay shape file run old tally) (looked : IsOnTheWay shape file run new tally) → looked.now ≡ way.now →
+pub waits_same : (shape : Shape) (seen : ℕ → List ℕ) (run : Progress) (old new : Site) (tally : Tally) (way : IsOnTheWay shape seen run old tally) (looked : IsOnTheWay shape seen run new tally) → looked.now ≡ way.now →
     still_waiting new.outbox ≡ still_waiting old.outbox
-waits_same shape file run old new tally way looked same =
+waits_same shape seen run old new tally way looked same =
     still_waiting_is new.outbox looked.now.sent looked.now.delivered (failed_in looked.now) looked.held.outbox
     ∙ ap (λ (p : Progress). length (undelivered p)) same
     ∙ sym (still_waiting_is old.outbox way.now.sent way.now.delivered (failed_in way.now) way.held.outbox)
 
 -- none waits any more
-pub way_ends : (shape : Shape) (file : List ℕ) (run : Progress) (site : Site) (tally : Tally) (way : IsOnTheWay shape file run site tally) →
+pub way_ends : (shape : Shape) (seen : ℕ → List ℕ) (run : Progress) (site : Site) (tally : Tally) (way : IsOnTheWay shape seen run site tally) →
     None ≡ first_of (undelivered way.now) →
-    IsSite shape site file (deliver_all_step shape run).run × (outcomes.Delivered tally.kept tally.known tally.outdated ≡ (deliver_all_step shape run).outcome)
+    IsSite shape site seen (deliver_all_step shape run).run × (outcomes.Delivered tally.kept tally.known tally.outdated ≡ (deliver_all_step shape run).outcome)
 unfolding deliver_all_step delivery_of_all
-way_ends shape file run site tally way first =
+way_ends shape seen run site tally way first =
     let none : undelivered way.now ≡ [] = no_first (undelivered way.now) (sym first) in
     let here : way.now ≡ all_delivered shape (undelivered run) run = sym (ap (λ (ps : List ℕ). all_delivered shape ps way.now) none) ∙ way.goal in
     let kept : tally.kept ≡ count_by is_kept (delivery_outcomes shape (undelivered run) run) = counted_all is_kept tally.kept _ none way.counted.kept in
     let known : tally.known ≡ count_by is_known (delivery_outcomes shape (undelivered run) run) = counted_all is_known tally.known _ none way.counted.known in
     let old : tally.outdated ≡ count_by is_old (delivery_outcomes shape (undelivered run) run) = counted_all is_old tally.outdated _ none way.counted.old in (
-      subst (IsSite shape site file) here way.held,
+      subst (IsSite shape site seen) here way.held,
       ap (λ (n : ℕ). outcomes.Delivered n tally.known tally.outdated) kept
           ∙ ap (λ (n : ℕ). outcomes.Delivered (count_by is_kept (delivery_outcomes shape (undelivered run) run)) n tally.outdated) known
           ∙ ap (outcomes.Delivered (count_by is_kept (delivery_outcomes shape (undelivered run) run)) (count_by is_known (delivery_outcomes shape (undelivered run) run))) old,

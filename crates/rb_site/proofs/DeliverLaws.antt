@@ -27,9 +27,9 @@ some_message sent place message is = go (slice_get sent place) refl
     go (Some at) q = (at, q, (let g : Some at.message ≡ Some message = sym (ap (option_map (λ sent. sent.message)) q) ∙ is in cc))
 
 -- a message that was sent is of a bucket of the event buffer
-pub bucket_fits : (shape : Shape) (site : Site) (file : List ℕ) (run : Progress) (place : ℕ) (message : Message) → IsSite shape site file run →
+pub bucket_fits : (shape : Shape) (site : Site) (seen : ℕ → List ℕ) (run : Progress) (place : ℕ) (message : Message) → IsSite shape site seen run →
     ((ss : List Sent) (ds : List ℕ) (failed_at : ℕ → ℕ) → HoldsSent site.outbox ss ds failed_at → option_map (λ sent. sent.message) (slice_get ss place) ≡ Some message) → bucket_in message < buckets_of site.events
-bucket_fits shape site file run place message held is =
+bucket_fits shape site seen run place message held is =
     let (at, there, same) = some_message run.sent place message (is run.sent run.delivered (failed_in run) held.outbox) in
     let own = of_sent (λ (s : Sent). IsOwn shape run.journal s.message) run.sent place at held.sound.sent there in
     let b : bucket_in at.message < shape.buckets = own.0 in
@@ -43,19 +43,19 @@ unfolding deliver_step
 deliver_there shape run place at there = ap (λ (x : Option Sent). option_map_or (λ sent. record { run = delivered_message place sent.message run; outcome = answer_outcome (answer_to (fed_by shape run) sent.message) }) x (unchanged run (outcomes.NoMessage place (length run.sent)))) there
 
 -- a site that a message reached, however its parts are made
-pub site_delivered : (shape : Shape) (old new : Site) (file : List ℕ) (run : Progress) (place : ℕ) (message : Message) (answer : Received) → IsSite shape old file run →
+pub site_delivered : (shape : Shape) (old new : Site) (seen : ℕ → List ℕ) (run : Progress) (place : ℕ) (message : Message) (answer : Received) → IsSite shape old seen run →
     ((ss : List Sent) (ds : List ℕ) (failed_at : ℕ → ℕ) → HoldsSent old.outbox ss ds failed_at → option_map (λ sent. sent.message) (slice_get ss place) ≡ Some message) →
     ((ss : List Sent) (ds : List ℕ) (failed_at : ℕ → ℕ) → HoldsSent old.outbox ss ds failed_at → HoldsSent new.outbox ss (place ∷ ds) failed_at) →
     nodes_in new.outbox ≡ nodes_in old.outbox →
     ((fed : Fed) → StandsFor old.events fed → answer ≡ answer_to fed message) →
     ((fed : Fed) → StandsFor old.events fed → StandsFor new.events (record fed { received = message ∷ fed.received })) →
     new ≡ record old { outbox = new.outbox; events = new.events } →
-    IsSite shape new file (deliver_step shape place run).run × (answer_outcome answer ≡ (deliver_step shape place run).outcome)
-site_delivered shape old new file run place message answer held is outbox senders answers events rest =
+    IsSite shape new seen (deliver_step shape place run).run × (answer_outcome answer ≡ (deliver_step shape place run).outcome)
+site_delivered shape old new seen run place message answer held is outbox senders answers events rest =
     let (at, there, same) = some_message run.sent place message (is run.sent run.delivered (failed_in run) held.outbox) in
     let step = deliver_there shape run place at there in
     let m : message ≡ at.message = sym same in
-    let after : IsSite shape (record old { outbox = new.outbox; events = new.events }) file (delivered_message place at.message run) = record {
+    let after : IsSite shape (record old { outbox = new.outbox; events = new.events }) seen (delivered_message place at.message run) = record {
       declared = held.declared;
       sound = sound_delivered shape place run at held.sound there;
       fits = held.fits;
@@ -70,15 +70,11 @@ site_delivered shape old new file run place message answer held is outbox sender
       outbox = outbox run.sent run.delivered (failed_in run) held.outbox;
       senders = senders ∙ held.senders;
       events = subst (λ (m : Message). StandsFor new.events (record { buckets = shape.buckets; last = run.last; received = m ∷ run.received })) m (events (fed_by shape run) held.events);
-      written = held.written;
-      last = held.last;
       log = held.log;
-      length_is = held.length_is;
       made = held.made;
       few = held.few;
-      size = held.size;
     } in (
-      subst (λ (s : Stepped). IsSite shape new file s.run) (sym step) (subst (λ (s : Site). IsSite shape s file (delivered_message place at.message run)) (sym rest) after),
+      subst (λ (s : Stepped). IsSite shape new seen s.run) (sym step) (subst (λ (s : Site). IsSite shape s seen (delivered_message place at.message run)) (sym rest) after),
       ap answer_outcome (answers (fed_by shape run) held.events ∙ ap (answer_to (fed_by shape run)) m) ∙ sym (ap (λ (s : Stepped). s.outcome) step),
     )
 
@@ -88,14 +84,14 @@ none_there [] place over = refl
 none_there (s ∷ sent) zero over = absurd (omega arith)
 none_there (s ∷ sent) (suc place) over = none_there sent place (omega arith)
 
-pub not_delivered : (shape : Shape) (site : Site) (file : List ℕ) (run : Progress) (place count : ℕ) → IsSite shape site file run → count ≡ count_in site.outbox → count ≤ place →
-    IsSite shape site file (deliver_step shape place run).run × (outcomes.NoMessage place count ≡ (deliver_step shape place run).outcome)
+pub not_delivered : (shape : Shape) (site : Site) (seen : ℕ → List ℕ) (run : Progress) (place count : ℕ) → IsSite shape site seen run → count ≡ count_in site.outbox → count ≤ place →
+    IsSite shape site seen (deliver_step shape place run).run × (outcomes.NoMessage place count ≡ (deliver_step shape place run).outcome)
 unfolding deliver_step
-not_delivered shape site file run place count held is over =
+not_delivered shape site seen run place count held is over =
     let n : count ≡ length run.sent = is ∙ ap length held.outbox.sent_is in
     let step : deliver_step shape place run ≡ unchanged run (outcomes.NoMessage place (length run.sent)) =
     ap (λ (x : Option Sent). option_map_or (λ sent. record { run = delivered_message place sent.message run; outcome = answer_outcome (answer_to (fed_by shape run) sent.message) }) x (unchanged run (outcomes.NoMessage place (length run.sent)))) (none_there run.sent place (omega arith)) in
-    (subst (λ (s : Stepped). IsSite shape site file s.run) (sym step) held, ap (outcomes.NoMessage place) n ∙ sym (ap (λ (s : Stepped). s.outcome) step))
+    (subst (λ (s : Stepped). IsSite shape site seen s.run) (sym step) held, ap (outcomes.NoMessage place) n ∙ sym (ap (λ (s : Stepped). s.outcome) step))
 
 -- two facts on Ok
 pub if_ok_both : {X E : Type 0} → (result : Result X E) (P Q : X → Type 0) (R : Type 0) → IfOk result P → OnOk result R → ((x : X) → P x → R → Q x) → IfOk result Q

@@ -33,26 +33,26 @@ use Rattle.rb_site.proofs.PointLaws.{can_count, cover_at_site, cover_in_run, suc
 use Rattle.rb_site.proofs.AgainLaws.{sent_taking_over, takeover_senders, sent_resending, resend_senders}
 
 -- what these events need of the nodes
-pub can_fail : (shape : Shape) (old : Site) (file : List ℕ) (run : Progress) (node : ℕ) → IsSite shape old file run → node < shape.buckets → CanFail old.nodes node
-can_fail shape old file run node held below = (shape.buckets, buffered_by shape run, held.nodes, below, can_count shape old file run held)
+pub can_fail : (shape : Shape) (old : Site) (seen : ℕ → List ℕ) (run : Progress) (node : ℕ) → IsSite shape old seen run → node < shape.buckets → CanFail old.nodes node
+can_fail shape old seen run node held below = (shape.buckets, buffered_by shape run, held.nodes, below, can_count shape old seen run held)
 
-pub can_restart : (shape : Shape) (old : Site) (file : List ℕ) (run : Progress) (node : ℕ) → IsSite shape old file run → node < shape.buckets → opened_of old + 1 < 2 ^ 64 → CanRestart old.nodes node
-can_restart shape old file run node held below room =
+pub can_restart : (shape : Shape) (old : Site) (seen : ℕ → List ℕ) (run : Progress) (node : ℕ) → IsSite shape old seen run → node < shape.buckets → opened_of old + 1 < 2 ^ 64 → CanRestart old.nodes node
+can_restart shape old seen run node held below room =
     let opened : old.clock.opened ≡ run.opened = ap (λ (hand : Hand). hand.opened) held.clock in
     (shape.buckets, buffered_by shape run, held.nodes, below, omega arith)
 
-pub can_resend : (shape : Shape) (old : Site) (file : List ℕ) (run : Progress) → IsSite shape old file run → run.lost ≡ None → CanResend old.nodes
-can_resend shape old file run held none = (shape.buckets, buffered_by shape run, held.nodes, held.covered none, can_count shape old file run held)
+pub can_resend : (shape : Shape) (old : Site) (seen : ℕ → List ℕ) (run : Progress) → IsSite shape old seen run → run.lost ≡ None → CanResend old.nodes
+can_resend shape old seen run held none = (shape.buckets, buffered_by shape run, held.nodes, held.covered none, can_count shape old seen run held)
 
 -- a node of a site is one of its nodes, for whichever run it stands
-pub still_below : (shape other : Shape) (old : Site) (file written : List ℕ) (run now : Progress) (node : ℕ) → IsSite shape old file run → node < shape.buckets → IsSite other old written now → node < other.buckets
-still_below shape other old file written run now node held below also =
+pub still_below : (shape other : Shape) (old : Site) (seen written : ℕ → List ℕ) (run now : Progress) (node : ℕ) → IsSite shape old seen run → node < shape.buckets → IsSite other old written now → node < other.buckets
+still_below shape other old seen written run now node held below also =
     let one = held.nodes.buckets_are in
     let two = also.nodes.buckets_are in
     omega arith
 
 -- a site whose nodes and outbox changed, and that may have lost a group
-site_moved : (shape : Shape) (old new : Site) (file : List ℕ) (run : Progress) (sent : List Sent) (nodes : members.Nodes) (lost : Option (ℕ × ℕ)) → IsSite shape old file run →
+site_moved : (shape : Shape) (old new : Site) (seen : ℕ → List ℕ) (run : Progress) (sent : List Sent) (nodes : members.Nodes) (lost : Option (ℕ × ℕ)) → IsSite shape old seen run →
     IsSound shape (record run { sent = sent; nodes = nodes; lost = lost }) →
     HoldsNodes new.nodes shape.buckets (with_members nodes (buffered_by shape run)) →
     (lost ≡ None → AllCovered shape.buckets (needed_of shape run) nodes) →
@@ -60,10 +60,10 @@ site_moved : (shape : Shape) (old new : Site) (file : List ℕ) (run : Progress)
     HoldsSent new.outbox sent run.delivered (λ node. (node_at nodes node).failed_at) →
     nodes_in new.outbox ≡ nodes_in old.outbox →
     new ≡ record old { nodes = new.nodes; outbox = new.outbox; lost = new.lost } →
-    IsSite shape new file (record run { sent = sent; nodes = nodes; lost = lost })
-site_moved shape old new file run sent nodes lost held sound stands covered loss outbox senders rest =
+    IsSite shape new seen (record run { sent = sent; nodes = nodes; lost = lost })
+site_moved shape old new seen run sent nodes lost held sound stands covered loss outbox senders rest =
     let now : Progress = record run { sent = sent; nodes = nodes; lost = lost } in
-    let after : IsSite shape (record old { nodes = new.nodes; outbox = new.outbox; lost = new.lost }) file now = record {
+    let after : IsSite shape (record old { nodes = new.nodes; outbox = new.outbox; lost = new.lost }) seen now = record {
       declared = held.declared;
       sound = sound;
       fits = held.fits;
@@ -78,15 +78,11 @@ site_moved shape old new file run sent nodes lost held sound stands covered loss
       outbox = outbox;
       senders = senders ∙ held.senders;
       events = held.events;
-      written = held.written;
-      last = held.last;
       log = held.log;
-      length_is = held.length_is;
       made = held.made;
       few = held.few;
-      size = held.size;
     } in
-    subst (λ (s : Site). IsSite shape s file now) (sym rest) after
+    subst (λ (s : Site). IsSite shape s seen now) (sym rest) after
 
 -- the step of a failure: a successor takes over, the group is lost, or the node is down already
 step_takes_over : (shape : Shape) (node successor : ℕ) (run : Progress) → (node_at run.nodes node).up ≡ true → successor_of run.nodes (needed_of shape run) node ≡ Some successor → fail_step shape node run ≡ takeover_step shape node successor run
@@ -115,12 +111,12 @@ unfolding restart_step
 step_was_up node run up = ap (λ (b : Bool). if b then unchanged run (outcomes.NodeUp node) else record { run = record run { nodes = with_restart node run.opened run.nodes }; outcome = outcomes.Restarted (record { 0 = run.opened + 1 }) }) up
 
 -- a site that stands where a step leads, and its answer
-at_step : (shape : Shape) (new : Site) (file : List ℕ) (step other : Stepped) (outcome : Outcome) → step ≡ other → IsSite shape new file other.run → outcome ≡ other.outcome → IsSite shape new file step.run × (outcome ≡ step.outcome)
-at_step shape new file step other outcome is held answer = (subst (λ (s : Stepped). IsSite shape new file s.run) (sym is) held, answer ∙ sym (ap (λ (s : Stepped). s.outcome) is))
+at_step : (shape : Shape) (new : Site) (seen : ℕ → List ℕ) (step other : Stepped) (outcome : Outcome) → step ≡ other → IsSite shape new seen other.run → outcome ≡ other.outcome → IsSite shape new seen step.run × (outcome ≡ step.outcome)
+at_step shape new seen step other outcome is held answer = (subst (λ (s : Stepped). IsSite shape new seen s.run) (sym is) held, answer ∙ sym (ap (λ (s : Stepped). s.outcome) is))
 
 -- the same, where a branch of the code says which site and which answer these are
-pub at_branch : (shape : Shape) (file : List ℕ) (step : Stepped) (site now : Site) (outcome said : Outcome) → now ≡ site → said ≡ outcome → IsSite shape site file step.run × (outcome ≡ step.outcome) → IsSite shape now file step.run × (said ≡ step.outcome)
-at_branch shape file step site now outcome said same answer held = (subst (λ (s : Site). IsSite shape s file step.run) (sym same) held.0, answer ∙ held.1)
+pub at_branch : (shape : Shape) (seen : ℕ → List ℕ) (step : Stepped) (site now : Site) (outcome said : Outcome) → now ≡ site → said ≡ outcome → IsSite shape site seen step.run × (outcome ≡ step.outcome) → IsSite shape now seen step.run × (said ≡ step.outcome)
+at_branch shape seen step site now outcome said same answer held = (subst (λ (s : Site). IsSite shape s seen step.run) (sym same) held.0, answer ∙ held.1)
 
 -- nodes whose failure of one had this outcome, or that refused it
 abbrev pub Fails : (old new : Nodes) → (node : ℕ) → FailOutcome → Type 0
@@ -143,9 +139,9 @@ pub record TakesOver (shape : Shape) (run : Progress) (node count : ℕ) (messag
   pub messages_are : messages ≡ flat_map (sent_again shape run successor) (owned_by run.nodes node)
   pub nodes : HoldsNodes new shape.buckets (with_members (with_owner node successor (with_failure node (length run.sent) run.nodes)) (buffered_by shape run))
 
-pub takes_over : (shape : Shape) (old : Site) (file : List ℕ) (run : Progress) (node count : ℕ) (messages : List Sent) (new : Nodes) → IsSite shape old file run → node < shape.buckets →
+pub takes_over : (shape : Shape) (old : Site) (seen : ℕ → List ℕ) (run : Progress) (node count : ℕ) (messages : List Sent) (new : Nodes) → IsSite shape old seen run → node < shape.buckets →
     Fails old.nodes new node (failures.Takeover count messages) → TakesOver shape run node count messages new
-takes_over shape old file run node count messages new held below failed =
+takes_over shape old seen run node count messages new held below failed =
     let (up, over) = failed shape.buckets (buffered_by shape run) (length run.sent) held.nodes in
     let (successor, is, owned, sends, stands) = over in
     let found : successor_of run.nodes (needed_of shape run) node ≡ Some successor = ap (λ (n : ℕ). successor_of run.nodes n node) (sym (needed_share shape run 0)) ∙ is in record {
@@ -159,10 +155,10 @@ takes_over shape old file run node count messages new held below failed =
     }
 
 -- the successor is one of the nodes that send
-pub taking_over_from : (shape : Shape) (old : Site) (file : List ℕ) (run : Progress) (node count : ℕ) (messages : List Sent) (new : Nodes) (outbox : Outbox) → IsSite shape old file run → node < shape.buckets → nodes_in outbox ≡ nodes_in old.outbox →
+pub taking_over_from : (shape : Shape) (old : Site) (seen : ℕ → List ℕ) (run : Progress) (node count : ℕ) (messages : List Sent) (new : Nodes) (outbox : Outbox) → IsSite shape old seen run → node < shape.buckets → nodes_in outbox ≡ nodes_in old.outbox →
     Fails old.nodes new node (failures.Takeover count messages) → AllByRecursion (λ message. message.sender < nodes_in outbox) messages
-taking_over_from shape old file run node count messages new outbox held below senders failed =
-    let over = takes_over shape old file run node count messages new held below failed in
+taking_over_from shape old seen run node count messages new outbox held below senders failed =
+    let over = takes_over shape old seen run node count messages new held below failed in
     subst (λ (n : ℕ). AllByRecursion (λ (message : Sent). message.sender < n) messages) (sym (senders ∙ held.senders))
     (subst (AllByRecursion (λ (message : Sent). message.sender < shape.buckets)) (sym over.messages_are) (takeover_senders shape run node over.successor over.below))
 
@@ -176,31 +172,31 @@ failed_now shape run node sent outbox sound below held =
     subst (HoldsSent outbox sent run.delivered) (fun_ext (λ other. sym (failed_behind run.nodes node (length run.sent) other (let count = sound.nodes.nodes in omega arith)))) held
 
 -- a site whose node failed, and whose buckets a successor took over
-pub site_taken_over : (shape : Shape) (old new : Site) (file : List ℕ) (run : Progress) (node count sent : ℕ) (messages : List Sent) → IsSite shape old file run → run.lost ≡ None → node < shape.buckets →
+pub site_taken_over : (shape : Shape) (old new : Site) (seen : ℕ → List ℕ) (run : Progress) (node count sent : ℕ) (messages : List Sent) → IsSite shape old seen run → run.lost ≡ None → node < shape.buckets →
     Fails old.nodes new.nodes node (failures.Takeover count messages) →
     ((ss : List Sent) (ds : List ℕ) (fa : ℕ → ℕ) → HoldsSent old.outbox ss ds fa → HoldsSent new.outbox (ss ++ messages) ds (λ other. if other == node then length ss else fa other)) →
     nodes_in new.outbox ≡ nodes_in old.outbox → sent ≡ count_in new.outbox → new ≡ record old { nodes = new.nodes; outbox = new.outbox } →
-    IsSite shape new file (fail_step shape node run).run × (outcomes.Failed count sent ≡ (fail_step shape node run).outcome)
-site_taken_over shape old new file run node count sent messages held none below failed outbox senders sent_is rest =
-    let over = takes_over shape old file run node count messages new.nodes held below failed in
+    IsSite shape new seen (fail_step shape node run).run × (outcomes.Failed count sent ≡ (fail_step shape node run).outcome)
+site_taken_over shape old new seen run node count sent messages held none below failed outbox senders sent_is rest =
+    let over = takes_over shape old seen run node count messages new.nodes held below failed in
     let all = run.sent ++ flat_map (sent_again shape run over.successor) (owned_by run.nodes node) in
     let box : HoldsSent new.outbox all run.delivered (failed_behind_run run node) =
     failed_now shape run node all new.outbox held.sound below
     (subst (λ (ms : List Sent). HoldsSent new.outbox (run.sent ++ ms) run.delivered (λ other. if other == node then length run.sent else failed_in run other)) over.messages_are (outbox run.sent run.delivered (failed_in run) held.outbox)) in
     let lost : new.lost ≡ old.lost = ap (λ (s : Site). s.lost) rest in
-    at_step shape new file (fail_step shape node run) (takeover_step shape node over.successor run) (outcomes.Failed count sent) (step_takes_over shape node over.successor run over.up over.is)
-    (site_moved shape old new file run all (with_owner node over.successor (with_failure node (length run.sent) run.nodes)) run.lost held (sound_takeover shape node over.successor run held.sound) over.nodes
+    at_step shape new seen (fail_step shape node run) (takeover_step shape node over.successor run) (outcomes.Failed count sent) (step_takes_over shape node over.successor run over.up over.is)
+    (site_moved shape old new seen run all (with_owner node over.successor (with_failure node (length run.sent) run.nodes)) run.lost held (sound_takeover shape node over.successor run held.sound) over.nodes
     (λ still. covered_takeover shape.buckets (needed_of shape run) node over.successor (length run.sent) run.nodes held.sound.nodes.owners over.is (cover_in_run shape run (held.covered still)))
     (ap loss_of lost ∙ held.lost) box senders (rest ∙ ap (λ (l : Option Loss). record old { nodes = new.nodes; outbox = new.outbox; lost = l }) (sym lost)))
     (ap (λ (n : ℕ). outcomes.Failed n sent) over.count_is ∙ ap (outcomes.Failed (length (owned_by run.nodes node))) (sent_is ∙ ap length box.sent_is))
 
 -- a site whose node failed, and whose group is lost
-pub site_lost : (shape : Shape) (old new : Site) (file : List ℕ) (run : Progress) (node group : ℕ) (epoch : Epoch) → IsSite shape old file run → node < shape.buckets →
+pub site_lost : (shape : Shape) (old new : Site) (seen : ℕ → List ℕ) (run : Progress) (node group : ℕ) (epoch : Epoch) → IsSite shape old seen run → node < shape.buckets →
     Fails old.nodes new.nodes node (failures.Lost group epoch) →
     ((ss : List Sent) (ds : List ℕ) (fa : ℕ → ℕ) → HoldsSent old.outbox ss ds fa → HoldsSent new.outbox ss ds (λ other. if other == node then length ss else fa other)) →
     nodes_in new.outbox ≡ nodes_in old.outbox → new ≡ record old { nodes = new.nodes; outbox = new.outbox; lost = Some (record { group = group; epoch = epoch }) } →
-    IsSite shape new file (fail_step shape node run).run × (outcomes.Lost group epoch ≡ (fail_step shape node run).outcome)
-site_lost shape old new file run node group epoch held below failed outbox senders rest =
+    IsSite shape new seen (fail_step shape node run).run × (outcomes.Lost group epoch ≡ (fail_step shape node run).outcome)
+site_lost shape old new seen run node group epoch held below failed outbox senders rest =
     let (up, loses) = failed shape.buckets (buffered_by shape run) (length run.sent) held.nodes in
     let (is, group_is, epoch_is, stands) = loses in
     let needed : needed_by (buffered_by shape run) ≡ needed_of shape run = needed_share shape run 0 in
@@ -209,89 +205,89 @@ site_lost shape old new file run node group epoch held below failed outbox sende
     let lost : new.lost ≡ Some (record { group = group; epoch = epoch }) = ap (λ (s : Site). s.lost) rest in
     let box : HoldsSent new.outbox run.sent run.delivered (failed_behind_run run node) =
     failed_now shape run node run.sent new.outbox held.sound below (outbox run.sent run.delivered (failed_in run) held.outbox) in
-    at_step shape new file (fail_step shape node run) (loss_step shape node run) (outcomes.Lost group epoch) (step_loses shape node run up found)
-    (site_moved shape old new file run run.sent (with_failure node (length run.sent) run.nodes) (Some (group_of run.nodes node, needed_of shape run)) held (sound_loss shape node run held.sound) stands
+    at_step shape new seen (fail_step shape node run) (loss_step shape node run) (outcomes.Lost group epoch) (step_loses shape node run up found)
+    (site_moved shape old new seen run run.sent (with_failure node (length run.sent) run.nodes) (Some (group_of run.nodes node, needed_of shape run)) held (sound_loss shape node run held.sound) stands
     (λ still. absurd (let no : Some (group_of run.nodes node, needed_of shape run) ≡ None = still in cc))
     (ap loss_of lost ∙ ap (λ (n : ℕ). Some (n, epoch.0)) group_is ∙ ap (λ (n : ℕ). Some (group_of run.nodes node, n)) epoch_here) box senders
     (rest ∙ ap (λ (l : Option Loss). record old { nodes = new.nodes; outbox = new.outbox; lost = l }) (sym lost)))
     (ap (λ (n : ℕ). outcomes.Lost n epoch) group_is ∙ ap (λ (n : ℕ). outcomes.Lost (group_of run.nodes node) (record { 0 = n })) epoch_here)
 
 -- a site whose nodes stand for the same
-site_stays : (shape : Shape) (old new : Site) (file : List ℕ) (run : Progress) → IsSite shape old file run → HoldsNodes new.nodes shape.buckets (buffered_by shape run) → new ≡ record old { nodes = new.nodes } → IsSite shape new file run
-site_stays shape old new file run held stands rest =
+site_stays : (shape : Shape) (old new : Site) (seen : ℕ → List ℕ) (run : Progress) → IsSite shape old seen run → HoldsNodes new.nodes shape.buckets (buffered_by shape run) → new ≡ record old { nodes = new.nodes } → IsSite shape new seen run
+site_stays shape old new seen run held stands rest =
     let outbox : new.outbox ≡ old.outbox = ap (λ (s : Site). s.outbox) rest in
     let lost : new.lost ≡ old.lost = ap (λ (s : Site). s.lost) rest in
-    site_moved shape old new file run run.sent run.nodes run.lost held held.sound stands (λ none. cover_in_run shape run (held.covered none)) (ap loss_of lost ∙ held.lost)
+    site_moved shape old new seen run run.sent run.nodes run.lost held held.sound stands (λ none. cover_in_run shape run (held.covered none)) (ap loss_of lost ∙ held.lost)
     (subst (λ (box : Outbox). HoldsSent box run.sent run.delivered (failed_in run)) (sym outbox) held.outbox) (ap nodes_in outbox)
     (rest ∙ ap (λ (box : Outbox). record old { nodes = new.nodes; outbox = box }) (sym outbox) ∙ ap (λ (l : Option Loss). record old { nodes = new.nodes; outbox = new.outbox; lost = l }) (sym lost))
 
 -- a site whose node was down already
-pub site_was_down : (shape : Shape) (old new : Site) (file : List ℕ) (run : Progress) (node other : ℕ) → IsSite shape old file run →
+pub site_was_down : (shape : Shape) (old new : Site) (seen : ℕ → List ℕ) (run : Progress) (node other : ℕ) → IsSite shape old seen run →
     RefusesFailure old.nodes new.nodes node (faults.NodeDown other) → new ≡ record old { nodes = new.nodes } →
-    IsSite shape new file (fail_step shape node run).run × (outcomes.NodeDown other ≡ (fail_step shape node run).outcome)
-site_was_down shape old new file run node other held refused rest =
+    IsSite shape new seen (fail_step shape node run).run × (outcomes.NodeDown other ≡ (fail_step shape node run).outcome)
+site_was_down shape old new seen run node other held refused rest =
     let (stands, fault) = refused shape.buckets (buffered_by shape run) held.nodes in
     let (same, down) = fault in
-    at_step shape new file (fail_step shape node run) (unchanged run (outcomes.NodeDown node)) (outcomes.NodeDown other) (step_was_down shape node run down)
-    (site_stays shape old new file run held stands rest) (ap outcomes.NodeDown same)
+    at_step shape new seen (fail_step shape node run) (unchanged run (outcomes.NodeDown node)) (outcomes.NodeDown other) (step_was_down shape node run down)
+    (site_stays shape old new seen run held stands rest) (ap outcomes.NodeDown same)
 
 -- a site whose node started again
-pub site_restarted : (shape : Shape) (old new : Site) (file : List ℕ) (run : Progress) (node : ℕ) (since : Epoch) → IsSite shape old file run → node < shape.buckets →
+pub site_restarted : (shape : Shape) (old new : Site) (seen : ℕ → List ℕ) (run : Progress) (node : ℕ) (since : Epoch) → IsSite shape old seen run → node < shape.buckets →
     ((b : ℕ) (s : Buffered) → HoldsNodes old.nodes b s → (since.0 ≡ s.opened + 1) × ((node_at s.members node).up ≡ false) × HoldsNodes new.nodes b (with_members (with_restart node s.opened s.members) s)) →
     new ≡ record old { nodes = new.nodes } →
-    IsSite shape new file (restart_step node run).run × (outcomes.Restarted since ≡ (restart_step node run).outcome)
-site_restarted shape old new file run node since held below restarted rest =
+    IsSite shape new seen (restart_step node run).run × (outcomes.Restarted since ≡ (restart_step node run).outcome)
+site_restarted shape old new seen run node since held below restarted rest =
     let (since_is, down, stands) = restarted shape.buckets (buffered_by shape run) held.nodes in
     let outbox : new.outbox ≡ old.outbox = ap (λ (s : Site). s.outbox) rest in
     let lost : new.lost ≡ old.lost = ap (λ (s : Site). s.lost) rest in
     let step = step_restarts node run down in
     let same : failed_in run ≡ (λ (other : ℕ). (node_at (with_restart node run.opened run.nodes) other).failed_at) =
     fun_ext (λ other. sym (failed_restart run.nodes node run.opened other (let count = held.sound.nodes.nodes in omega arith))) in
-    at_step shape new file (restart_step node run) (record { run = record run { nodes = with_restart node run.opened run.nodes }; outcome = outcomes.Restarted (record { 0 = run.opened + 1 }) }) (outcomes.Restarted since) step
-    (site_moved shape old new file run run.sent (with_restart node run.opened run.nodes) run.lost held (subst (λ (s : Stepped). IsSound shape s.run) step (sound_restart shape node run held.sound)) stands
+    at_step shape new seen (restart_step node run) (record { run = record run { nodes = with_restart node run.opened run.nodes }; outcome = outcomes.Restarted (record { 0 = run.opened + 1 }) }) (outcomes.Restarted since) step
+    (site_moved shape old new seen run run.sent (with_restart node run.opened run.nodes) run.lost held (subst (λ (s : Stepped). IsSound shape s.run) step (sound_restart shape node run held.sound)) stands
     (λ none. covered_restart shape.buckets (needed_of shape run) node run.opened run.nodes down (cover_in_run shape run (held.covered none))) (ap loss_of lost ∙ held.lost)
     (subst (HoldsSent new.outbox run.sent run.delivered) same (subst (λ (box : Outbox). HoldsSent box run.sent run.delivered (failed_in run)) (sym outbox) held.outbox)) (ap nodes_in outbox)
     (rest ∙ ap (λ (box : Outbox). record old { nodes = new.nodes; outbox = box }) (sym outbox) ∙ ap (λ (l : Option Loss). record old { nodes = new.nodes; outbox = new.outbox; lost = l }) (sym lost)))
     (ap (λ (n : ℕ). outcomes.Restarted (record { 0 = n })) since_is)
 
 -- a site whose node was up already
-pub site_was_up : (shape : Shape) (old new : Site) (file : List ℕ) (run : Progress) (node other : ℕ) → IsSite shape old file run →
+pub site_was_up : (shape : Shape) (old new : Site) (seen : ℕ → List ℕ) (run : Progress) (node other : ℕ) → IsSite shape old seen run →
     RefusesRestart old.nodes new.nodes node (faults.NodeUp other) → new ≡ record old { nodes = new.nodes } →
-    IsSite shape new file (restart_step node run).run × (outcomes.NodeUp other ≡ (restart_step node run).outcome)
-site_was_up shape old new file run node other held refused rest =
+    IsSite shape new seen (restart_step node run).run × (outcomes.NodeUp other ≡ (restart_step node run).outcome)
+site_was_up shape old new seen run node other held refused rest =
     let (stands, fault) = refused shape.buckets (buffered_by shape run) held.nodes in
     let (same, up) = fault in
-    at_step shape new file (restart_step node run) (unchanged run (outcomes.NodeUp node)) (outcomes.NodeUp other) (step_was_up node run up)
-    (site_stays shape old new file run held stands rest) (ap outcomes.NodeUp same)
+    at_step shape new seen (restart_step node run) (unchanged run (outcomes.NodeUp node)) (outcomes.NodeUp other) (step_was_up node run up)
+    (site_stays shape old new seen run held stands rest) (ap outcomes.NodeUp same)
 
 -- what the nodes send again is what the run sends again
-pub resending_are : (shape : Shape) (old : Site) (file : List ℕ) (run : Progress) (messages : List Sent) → IsSite shape old file run →
+pub resending_are : (shape : Shape) (old : Site) (seen : ℕ → List ℕ) (run : Progress) (messages : List Sent) → IsSite shape old seen run →
     ((b : ℕ) (s : Buffered) → HoldsNodes old.nodes b s → messages ≡ site.sent_at_resend b s (length old.nodes.groups.items)) →
     messages ≡ flat_map (λ bucket. sent_again shape run (owner_in run.nodes bucket) bucket) (numbers_below shape.buckets)
-resending_are shape old file run messages held sends = sends shape.buckets (buffered_by shape run) held.nodes ∙ sent_resending shape run old.nodes held.nodes
+resending_are shape old seen run messages held sends = sends shape.buckets (buffered_by shape run) held.nodes ∙ sent_resending shape run old.nodes held.nodes
 
 -- and who sends it is one of the nodes
-pub resending_from : (shape : Shape) (old : Site) (file : List ℕ) (run : Progress) (messages : List Sent) → IsSite shape old file run →
+pub resending_from : (shape : Shape) (old : Site) (seen : ℕ → List ℕ) (run : Progress) (messages : List Sent) → IsSite shape old seen run →
     ((b : ℕ) (s : Buffered) → HoldsNodes old.nodes b s → messages ≡ site.sent_at_resend b s (length old.nodes.groups.items)) →
     AllByRecursion (λ message. message.sender < nodes_in old.outbox) messages
-resending_from shape old file run messages held sends =
+resending_from shape old seen run messages held sends =
     subst (λ (n : ℕ). AllByRecursion (λ (message : Sent). message.sender < n) messages) (sym held.senders)
-    (subst (AllByRecursion (λ (message : Sent). message.sender < shape.buckets)) (sym (resending_are shape old file run messages held sends)) (resend_senders shape run old.nodes held.nodes))
+    (subst (AllByRecursion (λ (message : Sent). message.sender < shape.buckets)) (sym (resending_are shape old seen run messages held sends)) (resend_senders shape run old.nodes held.nodes))
 
 -- a site whose owners sent again
-pub site_resent : (shape : Shape) (old new : Site) (file : List ℕ) (run : Progress) (messages : List Sent) (sent : ℕ) → IsSite shape old file run →
+pub site_resent : (shape : Shape) (old new : Site) (seen : ℕ → List ℕ) (run : Progress) (messages : List Sent) (sent : ℕ) → IsSite shape old seen run →
     ((b : ℕ) (s : Buffered) → HoldsNodes old.nodes b s → messages ≡ site.sent_at_resend b s (length old.nodes.groups.items)) →
     ((ss : List Sent) (ds : List ℕ) (fa : ℕ → ℕ) → HoldsSent old.outbox ss ds fa → HoldsSent new.outbox (ss ++ messages) ds fa) →
     nodes_in new.outbox ≡ nodes_in old.outbox → sent ≡ count_in new.outbox → new ≡ record old { outbox = new.outbox } →
-    IsSite shape new file (resend_step shape run).run × (outcomes.Resent sent ≡ (resend_step shape run).outcome)
+    IsSite shape new seen (resend_step shape run).run × (outcomes.Resent sent ≡ (resend_step shape run).outcome)
 unfolding resend_step
-site_resent shape old new file run messages sent held sends outbox senders sent_is rest =
+site_resent shape old new seen run messages sent held sends outbox senders sent_is rest =
     let all = run.sent ++ flat_map (λ bucket. sent_again shape run (owner_in run.nodes bucket) bucket) (numbers_below shape.buckets) in
     let nodes : new.nodes ≡ old.nodes = ap (λ (s : Site). s.nodes) rest in
     let lost : new.lost ≡ old.lost = ap (λ (s : Site). s.lost) rest in
     let box : HoldsSent new.outbox all run.delivered (failed_in run) =
-    subst (λ (ms : List Sent). HoldsSent new.outbox (run.sent ++ ms) run.delivered (failed_in run)) (resending_are shape old file run messages held sends) (outbox run.sent run.delivered (failed_in run) held.outbox) in (
-      site_moved shape old new file run all run.nodes run.lost held (sound_resend shape run held.sound) (subst (λ (n : Nodes). HoldsNodes n shape.buckets (buffered_by shape run)) (sym nodes) held.nodes)
+    subst (λ (ms : List Sent). HoldsSent new.outbox (run.sent ++ ms) run.delivered (failed_in run)) (resending_are shape old seen run messages held sends) (outbox run.sent run.delivered (failed_in run) held.outbox) in (
+      site_moved shape old new seen run all run.nodes run.lost held (sound_resend shape run held.sound) (subst (λ (n : Nodes). HoldsNodes n shape.buckets (buffered_by shape run)) (sym nodes) held.nodes)
           (λ none. cover_in_run shape run (held.covered none)) (ap loss_of lost ∙ held.lost) box senders
           (rest ∙ ap (λ (n : Nodes). record old { nodes = n; outbox = new.outbox }) (sym nodes) ∙ ap (λ (l : Option Loss). record old { nodes = new.nodes; outbox = new.outbox; lost = l }) (sym lost)),
       ap outcomes.Resent (sent_is ∙ ap length box.sent_is),

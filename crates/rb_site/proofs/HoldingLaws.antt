@@ -27,8 +27,8 @@ item_there (x ∷ xs) zero within = (x, refl)
 item_there (x ∷ xs) (suc k) within = item_there xs k (omega arith)
 
 -- the owner of a bucket holds all messages of it that are not acknowledged
-pub owner_holds : (shape : Shape) (site : Site) (file : List ℕ) (run : Progress) → IsSite shape site file run → run.lost ≡ None → (bucket : ℕ) → bucket < shape.buckets → OwnerHolds shape site run bucket
-owner_holds shape site file run held none bucket below =
+pub owner_holds : (shape : Shape) (site : Site) (seen : ℕ → List ℕ) (run : Progress) → IsSite shape site seen run → run.lost ≡ None → (bucket : ℕ) → bucket < shape.buckets → OwnerHolds shape site run bucket
+owner_holds shape site seen run held none bucket below =
     let nodes = held.nodes in
     let all : Buffered = buffered_by shape run in
     let number = bucket / run.nodes.replicas in

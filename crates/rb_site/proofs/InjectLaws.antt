@@ -1,16 +1,15 @@
 -- What the injector leaves of a site.
-use Rattle.std.proofs.Common.{◌≡◌, ℕ, ◌+◌, ◌*◌, ◌<◌, ◌≤◌, Bool, true, false, cond, List, [], ◌∷◌, ◌++◌, length, map, filter, refl, sym, ap, subst, ◌∙◌, arith}
+use Rattle.std.proofs.Common.{◌≡◌, ℕ, ◌≤◌, Bool, true, false, cond, List, [], ◌∷◌, ◌++◌, length, map, filter, refl, sym, ap, subst, ◌∙◌, arith}
 use Rattle.std.specs.Prelude.{Result, Ok, Err, IfErr, sum_by, Option, Some, None, ◌||◌, is_some, nat_le}
 use Rattle.std.specs.Option.{option_map, option_map_or}
-use Rattle.std.proofs.lemmas.List.{append-nil}
+use Rattle.std.proofs.lemmas.List.{append-nil, length-take-le}
 use Rattle.std.proofs.lemmas.List.Sums.{sum_by-cons}
 use Rattle.rb_base.specs.declared.site.SiteId.{SiteId}
 use Rattle.rb_base.specs.declared.site.SiteId.TheVariants.{A, B}
 use Rattle.rb_base.specs.declared.schema.Mapped.{Mapped}
 use Rattle.rb_base.specs.declared.body.EpochBody.{EpochBody}
-use Rattle.rb_log_defs.specs.Epoch.{epoch_bytes}
 use Rattle.rb_journal_defs.specs.Journal.{Journal, closed_epochs}
-use Rattle.rb_journal_defs.specs.Body.{Shape, changes_in, body_changes, body_of, has_something_to_log, is_some_change, reflected_in}
+use Rattle.rb_journal_defs.specs.Body.{Shape, changes_in, body_changes, body_of, has_something_to_log, is_some_change, reflected_in, completed_bodies}
 use Rattle.rb_journal_defs.specs.Transaction.{first_of}
 use Rattle.rb_journal_defs.proofs.Counts.{body_length, epochs_length}
 use Rattle.rb_journal_defs.proofs.Order.{closed_rise}
@@ -23,18 +22,25 @@ use Rattle.rb_evbuf.specs.declared.buffer.EventBuffer.{EventBuffer}
 use Rattle.rb_play_defs.specs.Step.{Progress, fed_by, takeable, worth_logging, written_bodies, with_taken}
 use Rattle.rb_play_defs.specs.Sound.{IsSound}
 use Rattle.rb_text_defs.specs.Script.{most_changes}
-use Rattle.rb_play_defs.proofs.Takes.{fed_from, sound_taken, written_is, written_more}
-use Rattle.rb_site.specs.Body.{body_of_assembled}
-use Rattle.rb_site.specs.Site.{IsSiteAt, most_of_change, changes_in_bodies, changes_made}
-use Rattle.rb_site.specs.declared.site.Site.{Site}
+use Rattle.rb_play_defs.proofs.Takes.{fed_from, written_is, written_more}
+use Rattle.rb_inject.specs.Body.{body_of_assembled}
+use Rattle.rb_inject.specs.Injector as inject
+use Rattle.rb_inject.specs.declared.injector.Injector.{Injector}
+use Rattle.rb_play_defs.proofs.Grows.{written_within}
+use Rattle.rb_site.specs.Site.{AreDeclared, changes_made}
+use Rattle.rb_site.specs.Inject.{IsInjectorAt}
 use Rattle.rb_site.proofs.BodyLaws.{body_is}
-use Rattle.rb_site.proofs.BodyFits.{few_bytes, at_least_one}
+use Rattle.rb_site.proofs.BodyFits.{at_least_one}
+
+-- how many changes bodies have
+abbrev pub changes_in_bodies : List EpochBody → ℕ
+changes_in_bodies bodies = sum_by (λ body. length body.changes) bodies
 
 -- what the event buffer puts together
-pub next_is : {acknowledged : ℕ} → (shape : Shape) (site : Site) (file : List ℕ) (run : Progress) (result : Option Assembled) → IsSiteAt acknowledged shape site file run →
-    ((fed : Fed) → StandsFor site.events fed → AreChained fed.received → result ≡ assembled_of fed) → result ≡ option_map (journal_assembly shape run.last run.journal) (first_of (takeable shape run))
-next_is shape site file run result held answers =
-    answers (fed_by shape run) held.events (are_chained shape run.opened run.journal run.received held.sound.order held.sound.received)
+pub next_is : (shape : Shape) (events : EventBuffer) (its : Injector) (seen : ℕ → List ℕ) (run : Progress) (result : Option Assembled) → IsInjectorAt shape events its seen run →
+    ((fed : Fed) → StandsFor events fed → AreChained fed.received → result ≡ assembled_of fed) → result ≡ option_map (journal_assembly shape run.last run.journal) (first_of (takeable shape run))
+next_is shape events its seen run result held answers =
+    answers (fed_by shape run) held.fed (are_chained shape run.opened run.journal run.received held.sound.order held.sound.received)
     ∙ assembled_is_taken shape run.opened run.journal (fed_by shape run) (fed_from shape run held.sound)
 
 -- no epoch is whole
@@ -48,22 +54,22 @@ one_taken f [] assembled same = absurd (let g : Some assembled ≡ None = same i
 one_taken f (e ∷ epochs) assembled same = (e, epochs, refl, (let g : Some assembled ≡ Some (f e) = same in cc))
 
 -- the event buffer behind it
-pub buffer_stays : {acknowledged : ℕ} → (shape : Shape) (site : Site) (file : List ℕ) (run : Progress) (new : EventBuffer) → IsSiteAt acknowledged shape site file run →
-    ((fed : Fed) → StandsFor site.events fed → AreChained fed.received → None ≡ assembled_of fed) →
-    ((fed : Fed) → StandsFor site.events fed → AreChained fed.received → StandsFor new (taken_from fed)) → StandsFor new (fed_by shape run)
-buffer_stays shape site file run new held answers taken =
+pub buffer_stays : (shape : Shape) (events : EventBuffer) (its : Injector) (seen : ℕ → List ℕ) (run : Progress) (new : EventBuffer) → IsInjectorAt shape events its seen run →
+    ((fed : Fed) → StandsFor events fed → AreChained fed.received → None ≡ assembled_of fed) →
+    ((fed : Fed) → StandsFor events fed → AreChained fed.received → StandsFor new (taken_from fed)) → StandsFor new (fed_by shape run)
+buffer_stays shape events its seen run new held answers taken =
     let fed = fed_by shape run in
     let chained = are_chained shape run.opened run.journal run.received held.sound.order held.sound.received in
-    subst (λ (o : Option Assembled). StandsFor new (record fed { last = option_map_or (λ assembled. assembled.epoch.0) o fed.last })) (sym (answers fed held.events chained)) (taken fed held.events chained)
+    subst (λ (o : Option Assembled). StandsFor new (record fed { last = option_map_or (λ assembled. assembled.epoch.0) o fed.last })) (sym (answers fed held.fed chained)) (taken fed held.fed chained)
 
-pub buffer_taken : {acknowledged : ℕ} → (shape : Shape) (site : Site) (file : List ℕ) (run : Progress) (new : EventBuffer) (assembled : Assembled) (e : ℕ) → IsSiteAt acknowledged shape site file run → assembled.epoch.0 ≡ e →
-    ((fed : Fed) → StandsFor site.events fed → AreChained fed.received → Some assembled ≡ assembled_of fed) →
-    ((fed : Fed) → StandsFor site.events fed → AreChained fed.received → StandsFor new (taken_from fed)) → StandsFor new (fed_by shape (with_taken shape run e))
-buffer_taken shape site file run new assembled e held is answers taken =
+pub buffer_taken : (shape : Shape) (events : EventBuffer) (its : Injector) (seen : ℕ → List ℕ) (run : Progress) (new : EventBuffer) (assembled : Assembled) (e : ℕ) → IsInjectorAt shape events its seen run → assembled.epoch.0 ≡ e →
+    ((fed : Fed) → StandsFor events fed → AreChained fed.received → Some assembled ≡ assembled_of fed) →
+    ((fed : Fed) → StandsFor events fed → AreChained fed.received → StandsFor new (taken_from fed)) → StandsFor new (fed_by shape (with_taken shape run e))
+buffer_taken shape events its seen run new assembled e held is answers taken =
     let fed = fed_by shape run in
     let chained = are_chained shape run.opened run.journal run.received held.sound.order held.sound.received in
     subst (λ (n : ℕ). StandsFor new (record fed { last = n })) is
-    (subst (λ (o : Option Assembled). StandsFor new (record fed { last = option_map_or (λ assembled. assembled.epoch.0) o fed.last })) (sym (answers fed held.events chained)) (taken fed held.events chained))
+    (subst (λ (o : Option Assembled). StandsFor new (record fed { last = option_map_or (λ assembled. assembled.epoch.0) o fed.last })) (sym (answers fed held.fed chained)) (taken fed held.fed chained))
 
 -- what a body has to log
 pub is_logged_body : (shape : Shape) (e : ℕ) (j : Journal) → shape.site ≡ A → has_something_to_log (body_of shape e j) ≡ true → is_some_change (body_of shape e j).changes ≡ true
@@ -106,12 +112,6 @@ written_few shape run sound =
     let g : sum_by f (closed_epochs j) ≤ changes_made shape j = epochs_length shape.site run.opened (closed_epochs j) j (closed_rise run.opened j sound.order) in
     omega arith
 
-bodies_sum : (bodies : List EpochBody) (body : EpochBody) → changes_in_bodies (bodies ++ body ∷ []) ≡ changes_in_bodies bodies + length body.changes
-bodies_sum [] body = omega (arith, sum_by-cons (λ (body : EpochBody). length body.changes) body [])
-bodies_sum (b ∷ bodies) body =
-    let h = bodies_sum bodies body in
-    omega (arith, sum_by-cons (λ (body : EpochBody). length body.changes) b (bodies ++ body ∷ []), sum_by-cons (λ (body : EpochBody). length body.changes) b bodies)
-
 -- the bodies behind an epoch that is taken
 pub bodies_with : (shape : Shape) (run : Progress) (e : ℕ) (rest : List ℕ) → IsSound shape run → takeable shape run ≡ e ∷ rest → has_something_to_log (body_of shape e run.journal) ≡ true →
     written_bodies shape (with_taken shape run e) ≡ written_bodies shape run ++ body_of shape e run.journal ∷ []
@@ -120,27 +120,6 @@ bodies_with shape run e rest sound front logged = written_more shape run e rest 
 pub bodies_without : (shape : Shape) (run : Progress) (e : ℕ) (rest : List ℕ) → IsSound shape run → takeable shape run ≡ e ∷ rest → has_something_to_log (body_of shape e run.journal) ≡ false →
     written_bodies shape (with_taken shape run e) ≡ written_bodies shape run
 bodies_without shape run e rest sound front logged = written_more shape run e rest sound front ∙ ap (λ (b : Bool). written_bodies shape run ++ cond b (body_of shape e run.journal ∷ []) []) logged ∙ append-nil (written_bodies shape run)
-
--- there is room for the next body
-pub room_for : {acknowledged : ℕ} → (shape : Shape) (site : Site) (file : List ℕ) (run : Progress) (e : ℕ) (rest : List ℕ) → IsSiteAt acknowledged shape site file run → takeable shape run ≡ e ∷ rest → has_something_to_log (body_of shape e run.journal) ≡ true →
-    length file + length (epoch_bytes (body_of shape e run.journal) (length file)) ≤ 115 + most_of_change * changes_in_bodies (written_bodies shape (with_taken shape run e))
-room_for shape site file run e rest held front logged =
-    let body = body_of shape e run.journal in
-    let few = few_bytes shape e run.journal (length file) held.declared held.fits (is_logged_body shape e run.journal held.declared.primary logged) in
-    let sum : changes_in_bodies (written_bodies shape (with_taken shape run e)) ≡ changes_in_bodies (written_bodies shape run) + length body.changes =
-    ap changes_in_bodies (bodies_with shape run e rest held.sound front logged) ∙ bodies_sum (written_bodies shape run) body in
-    let size = held.size in
-    omega arith
-
--- that is far below the limit of a file
-pub room_below : {acknowledged : ℕ} → (shape : Shape) (site : Site) (file : List ℕ) (run : Progress) (e : ℕ) (rest : List ℕ) → IsSiteAt acknowledged shape site file run → takeable shape run ≡ e ∷ rest → has_something_to_log (body_of shape e run.journal) ≡ true →
-    length file + length (epoch_bytes (body_of shape e run.journal) (length file)) < 1048576
-room_below shape site file run e rest held front logged =
-    let room = room_for shape site file run e rest held front logged in
-    let few = written_few shape (with_taken shape run e) (sound_taken shape run e rest held.sound front) in
-    let made = held.made in
-    let all = held.few in
-    omega arith
 
 -- each body that is written has a change
 worth_count : (shape : Shape) (j : Journal) (epochs : List ℕ) → shape.site ≡ A → length (worth_logging shape j epochs) ≤ changes_in_bodies (map (λ epoch. body_of shape epoch j) (worth_logging shape j epochs))
@@ -159,44 +138,50 @@ worth_count shape j (e ∷ epochs) a = go (has_something_to_log (body_of shape e
         omega (arith, sum_by-cons (λ (body : EpochBody). length body.changes) (body_of shape e j) (map made rest))
     go false logged h = h
 
+-- so many bodies are written
+pub count_is : (shape : Shape) (run : Progress) → IsSound shape run → length (written_bodies shape run) ≡ run.written
+count_is shape run sound = length-take-le run.written (completed_bodies shape run.journal) (written_within shape run sound)
+
 -- few bodies are written
-pub written_small : {acknowledged : ℕ} → (shape : Shape) (site : Site) (file : List ℕ) (run : Progress) → IsSiteAt acknowledged shape site file run → site.log.written ≤ most_changes
-written_small shape site file run held =
+pub written_small : (shape : Shape) (run : Progress) → AreDeclared shape → IsSound shape run → changes_made shape run.journal ≤ most_changes → run.written ≤ most_changes
+written_small shape run declared sound all =
     let upto = filter (λ epoch. nat_le epoch run.last) (closed_epochs run.journal) in
-    let n = held.written in
-    let w = held.sound.written in
-    let count = worth_count shape run.journal upto held.declared.primary in
-    let same : changes_in_bodies (written_bodies shape run) ≡ changes_in_bodies (map (λ epoch. body_of shape epoch run.journal) (worth_logging shape run.journal upto)) = ap changes_in_bodies (written_is shape run held.sound) in
-    let few = written_few shape run held.sound in
-    let made = held.made in
-    let all = held.few in
+    let w = sound.written in
+    let count = worth_count shape run.journal upto declared.primary in
+    let same : changes_in_bodies (written_bodies shape run) ≡ changes_in_bodies (map (λ epoch. body_of shape epoch run.journal) (worth_logging shape run.journal upto)) = ap changes_in_bodies (written_is shape run sound) in
+    let few = written_few shape run sound in
     omega arith
 
 -- the body of what was assembled is the journal's
-pub body_there : {acknowledged : ℕ} → (shape : Shape) (site : Site) (file : List ℕ) (run : Progress) (e : ℕ) (assembled : Assembled) (body : EpochBody) (tables : List Mapped) → IsSiteAt acknowledged shape site file run → tables ≡ site.mapped →
-    body ≡ body_of_assembled site.id tables assembled → assembled ≡ journal_assembly shape run.last run.journal e → body ≡ body_of shape e run.journal
-body_there shape site file run e assembled body tables held named is made =
-    is
-    ∙ ap (λ (s : SiteId). body_of_assembled s tables assembled) held.id
-    ∙ ap (λ (ts : List Mapped). body_of_assembled A ts assembled) (named ∙ held.mapped)
+pub body_there : (shape : Shape) (run : Progress) (e : ℕ) (assembled : Assembled) → AreDeclared shape → assembled ≡ journal_assembly shape run.last run.journal e → body_of_assembled shape.site shape.tables assembled ≡ body_of shape e run.journal
+body_there shape run e assembled declared made =
+    ap (λ (s : SiteId). body_of_assembled s shape.tables assembled) declared.primary
     ∙ ap (body_of_assembled A shape.tables) made
-    ∙ body_is shape run.last e run.journal held.declared.primary
+    ∙ body_is shape run.last e run.journal declared.primary
+
+-- and so is what the injector makes of it
+pub body_made : (shape : Shape) (events : EventBuffer) (its : Injector) (seen : ℕ → List ℕ) (run : Progress) (e : ℕ) (assembled : Assembled) → IsInjectorAt shape events its seen run → assembled ≡ journal_assembly shape run.last run.journal e →
+    inject.body_for its assembled ≡ body_of shape e run.journal
+body_made shape events its seen run e assembled held made =
+    ap (λ (s : SiteId). body_of_assembled s its.tables assembled) held.log.site_is
+    ∙ ap (λ (ts : List Mapped). body_of_assembled shape.site ts assembled) held.log.tables_are
+    ∙ body_there shape run e assembled held.declared made
+
+-- the next epoch, as it was assembled
+pub record IsNext (shape : Shape) (run : Progress) (assembled : Assembled) : Type 0 where
+  pub epoch : ℕ
+  pub rest : List ℕ
+  pub front : takeable shape run ≡ epoch ∷ rest
+  pub number : assembled.epoch.0 ≡ epoch
+  pub made : assembled ≡ journal_assembly shape run.last run.journal epoch
+
+pub next_there : (shape : Shape) (events : EventBuffer) (its : Injector) (seen : ℕ → List ℕ) (run : Progress) (assembled : Assembled) → IsInjectorAt shape events its seen run →
+    ((fed : Fed) → StandsFor events fed → AreChained fed.received → Some assembled ≡ assembled_of fed) → IsNext shape run assembled
+next_there shape events its seen run assembled held answers =
+    let (e, rest, front, made) = one_taken (journal_assembly shape run.last run.journal) (takeable shape run) assembled (next_is shape events its seen run (Some assembled) held answers) in
+    record { epoch = e; rest = rest; front = front; number = ap (λ (a : Assembled). a.epoch.0) made; made = made }
 
 -- what each fault leaves is left at an Err
 pub err_anyway : {X E : Type 0} → (result : Result X E) (P : E → Type 0) → ((e : E) → P e) → IfErr result P
 err_anyway (Ok x) P all = tt
 err_anyway (Err e) P all = all e
-
--- the next epoch and its body
-pub record IsNext (shape : Shape) (run : Progress) (assembled : Assembled) (body : EpochBody) : Type 0 where
-  pub epoch : ℕ
-  pub rest : List ℕ
-  pub front : takeable shape run ≡ epoch ∷ rest
-  pub number : assembled.epoch.0 ≡ epoch
-  pub body_is : body ≡ body_of shape epoch run.journal
-
-pub next_there : {acknowledged : ℕ} → (shape : Shape) (site : Site) (file : List ℕ) (run : Progress) (assembled : Assembled) (body : EpochBody) (tables : List Mapped) → IsSiteAt acknowledged shape site file run →
-    ((fed : Fed) → StandsFor site.events fed → AreChained fed.received → Some assembled ≡ assembled_of fed) → tables ≡ site.mapped → body ≡ body_of_assembled site.id tables assembled → IsNext shape run assembled body
-next_there shape site file run assembled body tables held answers named is =
-    let (e, rest, front, made) = one_taken (journal_assembly shape run.last run.journal) (takeable shape run) assembled (next_is shape site file run (Some assembled) held answers) in
-    record { epoch = e; rest = rest; front = front; number = ap (λ (a : Assembled). a.epoch.0) made; body_is = body_there shape site file run e assembled body tables held named is made }

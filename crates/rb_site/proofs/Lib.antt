@@ -18,14 +18,14 @@ pub mod FailLaws
 pub mod HoldingLaws
 pub mod DeliverLaws
 pub mod DeliverAllLaws
-pub mod Device
 pub mod BodyFits
 pub mod InjectLaws
+pub mod LogLaws
 pub mod TakeLaws
 pub mod TurnLaws
 pub mod BeginLaws
 pub mod MapLaws
 pub mod StepLaws
 pub mod StandLaws
+pub mod RecoverLaws
 pub mod TrialLaws
-pub mod WriteLaws

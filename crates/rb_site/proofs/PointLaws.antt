@@ -26,8 +26,8 @@ use Rattle.rb_site.proofs.NodeLaws.{IsIn, group_of_bucket, share_count}
 use Rattle.rb_site.proofs.ShareLaws.{at_number, needed_share}
 
 -- the changes of each epoch can be counted
-pub can_count : (shape : Shape) (site : Site) (file : List ℕ) (run : Progress) → IsSite shape site file run → CanCount (buffered_by shape run)
-can_count shape site file run held epoch =
+pub can_count : (shape : Shape) (site : Site) (seen : ℕ → List ℕ) (run : Progress) → IsSite shape site seen run → CanCount (buffered_by shape run)
+can_count shape site seen run held epoch =
     let count = epoch_length shape.site epoch run.journal in
     let made = held.made in
     let few = held.few in
@@ -110,8 +110,8 @@ owner_below nodes buckets site bucket held below =
     omega arith
 
 -- and one of those that send
-pub owners_in : (shape : Shape) (site : Site) (file : List ℕ) (run : Progress) → IsSite shape site file run → OwnersIn site.nodes site.outbox
-owners_in shape site file run held = λ buckets now stands bucket below.
+pub owners_in : (shape : Shape) (site : Site) (seen : ℕ → List ℕ) (run : Progress) → IsSite shape site seen run → OwnersIn site.nodes site.outbox
+owners_in shape site seen run held = λ buckets now stands bucket below.
     let l = owner_below site.nodes buckets now bucket stands below in
     let one = stands.buckets_are in
     let other = held.nodes.buckets_are in

@@ -1,16 +1,97 @@
 -- What a site tells of the point of the run that it stands for.
-use Rattle.std.proofs.Common.{◌≡◌, ℕ, List, ap}
+use Rattle.std.proofs.Common.{◌≡◌, ℕ, List, sym, ap, subst, arith}
+use Rattle.rb_base.specs.declared.site.SiteId.{SiteId}
+use Rattle.rb_base.specs.declared.site.SiteId.TheVariants.{A}
 use Rattle.rb_commit.specs.Hand.{Hand}
+use Rattle.rb_device_defs.specs.Image.{IsLogImage}
+use Rattle.rb_device_defs.proofs.ImageLaws.{whole_is_image}
 use Rattle.rb_journal_defs.specs.Body.{Shape}
-use Rattle.rb_play_defs.specs.Step.{Progress}
-use Rattle.rb_site.specs.Site.{IsSite, changes_made, made_by, drawn_by, opened_of}
+use Rattle.rb_evbuf.specs.Buffer as buffer
+use Rattle.rb_evbuf.specs.declared.buffer.EventBuffer.{EventBuffer}
+use Rattle.rb_inject.specs.Injector as inject
+use Rattle.rb_inject.specs.declared.injector.Injector.{Injector}
+use Rattle.rb_play_defs.specs.Step.{Progress, fed_by, written_bodies}
+use Rattle.rb_site.specs.Inject.{IsInjectorAt}
+use Rattle.rb_site.specs.Site.{IsSite, changes_made, made_by, drawn_by, opened_of, limit_of, setup_of}
+use Rattle.rb_site.specs.Stepped.{IsStoppedSite, rest_of, site_of}
+use Rattle.rb_site.specs.declared.stepped.StoppedSite.{StoppedSite}
 use Rattle.rb_site.specs.declared.site.Site.{Site}
 
-pub made_is : (shape : Shape) (site : Site) (file : List ℕ) (run : Progress) → IsSite shape site file run → made_by site ≡ changes_made shape run.journal
-made_is shape site file run held = held.made
+pub made_is : (shape : Shape) (site : Site) (seen : ℕ → List ℕ) (run : Progress) → IsSite shape site seen run → made_by site ≡ changes_made shape run.journal
+made_is shape site seen run held = held.made
 
-pub drawn_is : (shape : Shape) (site : Site) (file : List ℕ) (run : Progress) → IsSite shape site file run → drawn_by site ≡ run.drawn
-drawn_is shape site file run held = ap (λ (hand : Hand). hand.drawn) held.clock
+pub drawn_is : (shape : Shape) (site : Site) (seen : ℕ → List ℕ) (run : Progress) → IsSite shape site seen run → drawn_by site ≡ run.drawn
+drawn_is shape site seen run held = ap (λ (hand : Hand). hand.drawn) held.clock
 
-pub opened_is : (shape : Shape) (site : Site) (file : List ℕ) (run : Progress) → IsSite shape site file run → opened_of site ≡ run.opened
-opened_is shape site file run held = ap (λ (hand : Hand). hand.opened) held.clock
+pub opened_is : (shape : Shape) (site : Site) (seen : ℕ → List ℕ) (run : Progress) → IsSite shape site seen run → opened_of site ≡ run.opened
+opened_is shape site seen run held = ap (λ (hand : Hand). hand.opened) held.clock
+
+-- what stays of a site where its injector stops
+pub rest_stands : (shape : Shape) (site : Site) (seen : ℕ → List ℕ) (run : Progress) → IsSite shape site seen run → IsStoppedSite shape (rest_of site) run
+rest_stands shape site seen run held = record {
+  declared = held.declared;
+  sound = held.sound;
+  fits = held.fits;
+  id = held.id;
+  mapped = held.mapped;
+  clock = held.clock;
+  rows = held.rows;
+  count = held.count;
+  nodes = held.nodes;
+  covered = held.covered;
+  lost = held.lost;
+  outbox = held.outbox;
+  senders = held.senders;
+  made = held.made;
+  few = held.few;
+}
+
+-- its injector
+pub injector_stands : (shape : Shape) (site : Site) (seen : ℕ → List ℕ) (run : Progress) → IsSite shape site seen run → IsInjectorAt shape site.events site.injector seen run
+injector_stands shape site seen run held = record {
+  declared = held.declared;
+  sound = held.sound;
+  fits = held.fits;
+  few = let made = held.made in let all = held.few in omega arith;
+  fed = held.events;
+  log = held.log;
+}
+
+-- the site of both
+pub site_stands : (shape : Shape) (rest : StoppedSite) (events : EventBuffer) (its : Injector) (seen : ℕ → List ℕ) (run : Progress) → IsStoppedSite shape rest run → buffer.StandsFor events (fed_by shape run) →
+    inject.StandsFor its (setup_of shape its) (written_bodies shape run) seen → IsSite shape (site_of rest events its) seen run
+site_stands shape rest events its seen run held fed log = record {
+  declared = held.declared;
+  sound = held.sound;
+  fits = held.fits;
+  id = held.id;
+  mapped = held.mapped;
+  clock = held.clock;
+  rows = held.rows;
+  count = held.count;
+  nodes = held.nodes;
+  covered = held.covered;
+  lost = held.lost;
+  outbox = held.outbox;
+  senders = held.senders;
+  events = fed;
+  log = log;
+  made = held.made;
+  few = held.few;
+}
+
+-- the parts of a site, however they are made
+pub parts_stand : (shape : Shape) (site : Site) (rest : StoppedSite) (events : EventBuffer) (its : Injector) (seen : ℕ → List ℕ) (run : Progress) → rest ≡ rest_of site → events ≡ site.events → its ≡ site.injector → IsSite shape site seen run →
+    IsStoppedSite shape rest run × IsInjectorAt shape events its seen run
+parts_stand shape site rest events its seen run rest_is events_are its_is held = (
+  subst (λ (r : StoppedSite). IsStoppedSite shape r run) (sym rest_is) (rest_stands shape site seen run held),
+  subst (λ (e : EventBuffer). IsInjectorAt shape e its seen run) (sym events_are) (subst (λ (i : Injector). IsInjectorAt shape site.events i seen run) (sym its_is) (injector_stands shape site seen run held)),
+)
+
+-- a site's log is an image of itself
+pub site_image : (shape : Shape) (site : Site) (seen : ℕ → List ℕ) (run : Progress) → IsSite shape site seen run → IsLogImage A (limit_of site) (written_bodies shape run) seen
+site_image shape site seen run held =
+    subst (λ (id : SiteId). IsLogImage id (limit_of site) (written_bodies shape run) seen) held.declared.primary (whole_is_image shape.site (limit_of site) (written_bodies shape run) seen held.log.held)
+
+pub rest_there : (shape : Shape) (site : Site) (rest : StoppedSite) (seen : ℕ → List ℕ) (run : Progress) → rest ≡ rest_of site → IsSite shape site seen run → IsStoppedSite shape rest run
+rest_there shape site rest seen run is held = subst (λ (r : StoppedSite). IsStoppedSite shape r run) (sym is) (rest_stands shape site seen run held)

@@ -1,62 +1,39 @@
--- A site behind an epoch that was taken, and what a fault leaves.
-use Rattle.std.proofs.Common.{◌≡◌, ℕ, zero, suc, ◌+◌, ◌*◌, ◌<◌, ◌≤◌, Bool, true, false, cond, List, [], ◌∷◌, ◌++◌, length, map, take, drop, refl, sym, ap, subst, ◌∙◌, arith, length-append, append_assoc}
-use Rattle.std.specs.Prelude.{max, Option, None, unwrap_or}
+-- An injector behind an epoch that was taken, and what a fault leaves.
+use Rattle.std.proofs.Common.{◌≡◌, ℕ, ◌+◌, ◌<◌, ◌≤◌, Bool, true, false, List, [], ◌∷◌, ◌++◌, length, take, refl, sym, ap, subst, ◌∙◌, arith, inl, inr, length-append}
+use Rattle.std.specs.Prelude.{if◌then◌else◌, None, Option, Some}
 use Rattle.std.specs.List.{last_or}
-use Rattle.std.proofs.Math.Nat.{max-eq_right}
-use Rattle.std.proofs.lemmas.List.{map-append, take-append-le, drop-append-le, take_all, length-take-le}
+use Rattle.std.proofs.lemmas.List.{take-append-le, take_all}
+use Rattle.rb_base.specs.declared.site.SiteId.{SiteId}
 use Rattle.rb_base.specs.declared.site.SiteId.TheVariants.{A}
 use Rattle.rb_base.specs.declared.body.EpochBody.{EpochBody}
+use Rattle.rb_base.specs.declared.body.IndexRow.{IndexRow}
 use Rattle.rb_log_defs.specs.Epoch.{epoch_bytes}
-use Rattle.rb_log_defs.proofs.Files.{one_file_more}
-use Rattle.rb_text_defs.specs.Script.{default_limit}
-use Rattle.rb_journal_defs.specs.Body.{Shape, body_of, has_something_to_log, completed_bodies}
+use Rattle.rb_log_defs.specs.Fits.{CanBeWritten}
+use Rattle.rb_log_defs.specs.File.{binlog_files, index_rows}
+use Rattle.rb_message_defs.specs.declared.answers.Assembled.{Assembled}
+use Rattle.rb_device_defs.specs.Index.{IsIndexImage}
+use Rattle.rb_device_defs.specs.Image.{IsLogImage, HoldsUpTo}
+use Rattle.rb_device_defs.proofs.ImageLaws.{whole_is_image}
+use Rattle.rb_journal_defs.specs.Body.{Shape, body_of, has_something_to_log}
 use Rattle.rb_evbuf.specs.Buffer.{StandsFor}
 use Rattle.rb_evbuf.specs.declared.buffer.EventBuffer.{EventBuffer}
-use Rattle.rb_play_defs.specs.Step.{Progress, fed_by, takeable, worth_logging, written_bodies, last_epoch, acknowledged_epoch, needed_of, with_taken, injected}
+use Rattle.rb_inject.specs.Body.{body_of_assembled}
+use Rattle.rb_inject.specs.Injector as inject
+use Rattle.rb_inject.specs.Injector.{LeavesImage}
+use Rattle.rb_inject.specs.declared.injector.Injector.{Injector}
+use Rattle.rb_play_defs.specs.Step.{Progress, fed_by, takeable, written_bodies, needed_of, with_taken, injected}
 use Rattle.rb_play_defs.specs.Sound.{IsSound}
-use Rattle.rb_play_defs.specs.Part.{IsLogOf, next_bytes}
-use Rattle.rb_play_defs.proofs.Sounds.{last_below_opened}
+use Rattle.rb_play_defs.specs.Part.{HoldsPart}
 use Rattle.rb_play_defs.proofs.Takes.{sound_taken, injected_more}
-use Rattle.rb_play_defs.proofs.Grows.{Begins, goes_taken, written_within}
-use Rattle.rb_play_defs.proofs.Covering.{AllCovered, IsCovered, acknowledged_within, covered_taken}
-use Rattle.rb_site.specs.Fault.{LeavesLog}
-use Rattle.rb_site.specs.Writer.{IsTorn}
-use Rattle.rb_site.specs.Nodes.{Buffered, needed_by, HoldsNodes, OwnersCover, with_acknowledged, CanAcknowledge}
-use Rattle.rb_site.specs.Site.{IsSite, IsSiteAt, buffered_by, most_of_change, changes_in_bodies}
-use Rattle.rb_site.specs.declared.nodes.Nodes.{Nodes}
-use Rattle.rb_site.specs.declared.fault.SiteFault.{SiteFault}
-use Rattle.rb_site.specs.declared.site.Site.{Site}
-use Rattle.rb_site.specs.declared.site.LogEnd.{LogEnd}
-use Rattle.rb_site.proofs.RowLaws.{last_end}
-use Rattle.rb_site.proofs.Device.{leaves_log, leaves_torn}
+use Rattle.rb_play_defs.proofs.Grows.{Begins, goes_taken}
+use Rattle.rb_play_defs.proofs.Covering.{AllCovered, IsCovered, acknowledged_within, taken_above}
+use Rattle.rb_site.specs.Nodes.{needed_by, OwnersCover}
+use Rattle.rb_site.specs.Site.{buffered_by, setup_of}
+use Rattle.rb_site.specs.Inject.{IsInjectorAt, HasTaken}
 use Rattle.rb_site.proofs.ShareLaws.{needed_share}
-use Rattle.rb_site.proofs.InjectLaws.{bodies_with, bodies_without, room_for, room_below}
-
--- a site whose event buffer alone was looked at
-pub site_same : {acknowledged : ℕ} → (shape : Shape) (old : Site) (new : EventBuffer) (file : List ℕ) (run : Progress) → IsSiteAt acknowledged shape old file run → StandsFor new (fed_by shape run) → IsSiteAt acknowledged shape (record old { events = new }) file run
-site_same shape old new file run held events = record {
-  declared = held.declared;
-  sound = held.sound;
-  fits = held.fits;
-  id = held.id;
-  mapped = held.mapped;
-  clock = held.clock;
-  rows = held.rows;
-  count = held.count;
-  nodes = held.nodes;
-  covered = held.covered;
-  lost = held.lost;
-  outbox = held.outbox;
-  senders = held.senders;
-  events = events;
-  written = held.written;
-  last = held.last;
-  log = held.log;
-  length_is = held.length_is;
-  made = held.made;
-  few = held.few;
-  size = held.size;
-}
+use Rattle.rb_site.proofs.BodyFits.{can_be_written, few_bytes}
+use Rattle.rb_site.proofs.InjectLaws.{bodies_with, bodies_without, count_is, written_small, body_there, body_made, IsNext}
+use Rattle.rb_site.proofs.LogLaws.{log_named, written_epoch, few_changes, few_files}
 
 -- the nodes of a site need what the run needs
 needed_same : (shape : Shape) (run : Progress) → needed_by (buffered_by shape run) ≡ needed_of shape run
@@ -66,170 +43,142 @@ needed_same shape run = needed_share shape run 0
 pub owners_covered : (shape : Shape) (run : Progress) → IsCovered shape run → run.lost ≡ None → OwnersCover shape.buckets (buffered_by shape run)
 owners_covered shape run covered none = subst (λ (needed : ℕ). AllCovered shape.buckets needed run.nodes) (sym (needed_same shape run)) (covered none)
 
-run_covered : (shape : Shape) (run : Progress) → (run.lost ≡ None → OwnersCover shape.buckets (buffered_by shape run)) → IsCovered shape run
+pub run_covered : (shape : Shape) (run : Progress) → (run.lost ≡ None → OwnersCover shape.buckets (buffered_by shape run)) → IsCovered shape run
 run_covered shape run covered none = subst (λ (needed : ℕ). AllCovered shape.buckets needed run.nodes) (needed_same shape run) (covered none)
 
--- the last written epoch is below the open one, so the nodes can be told of it
-pub can_acknowledge : {acknowledged : ℕ} → (shape : Shape) (site : Site) (file : List ℕ) (run : Progress) → IsSiteAt acknowledged shape site file run → CanAcknowledge site.nodes site.log.last.0
-can_acknowledge {acknowledged} shape site file run held =
-    let within = acknowledged_within shape run held.sound in
-    let below : run.last < run.opened = last_below_opened shape run held.sound in
-    let last = held.last in
-    (shape.buckets, with_acknowledged acknowledged (buffered_by shape run), held.nodes, omega arith)
+-- the bodies behind an epoch that is taken
+pub bodies_taken : (shape : Shape) (run : Progress) (e : ℕ) (rest : List ℕ) → IsSound shape run → takeable shape run ≡ e ∷ rest → inject.bodies_with (written_bodies shape run) (body_of shape e run.journal) ≡ written_bodies shape (with_taken shape run e)
+bodies_taken shape run e rest sound front = go (has_something_to_log (body_of shape e run.journal)) refl
+  where
+    chosen : Bool → List EpochBody
+    chosen some = if some then written_bodies shape run ++ body_of shape e run.journal ∷ [] else written_bodies shape run
 
--- nodes that knew an earlier epoch and were told of the last written one
-pub site_told : {acknowledged : ℕ} → (shape : Shape) (old : Site) (new : Nodes) (file : List ℕ) (run : Progress) → IsSiteAt acknowledged shape old file run → acknowledged ≤ acknowledged_epoch shape run →
-    ((buckets : ℕ) (site : Buffered) → HoldsNodes old.nodes buckets site → HoldsNodes new buckets (with_acknowledged (max site.acknowledged old.log.last.0) site)) → IsSite shape (record old { nodes = new }) file run
-site_told {acknowledged} shape old new file run held earlier told = record {
+    go : (b : Bool) → has_something_to_log (body_of shape e run.journal) ≡ b → chosen (has_something_to_log (body_of shape e run.journal)) ≡ written_bodies shape (with_taken shape run e)
+    go true some = ap chosen some ∙ sym (bodies_with shape run e rest sound front some)
+    go false none = ap chosen none ∙ sym (bodies_without shape run e rest sound front none)
+
+-- the injector behind it
+pub injector_took : (shape : Shape) (events new : EventBuffer) (its after : Injector) (seen now : ℕ → List ℕ) (run : Progress) (e : ℕ) (rest : List ℕ) (body : EpochBody) → IsInjectorAt shape events its seen run → takeable shape run ≡ e ∷ rest →
+    body ≡ body_of shape e run.journal → StandsFor new (fed_by shape (with_taken shape run e)) →
+    inject.StandsFor after (setup_of shape its) (inject.bodies_with (written_bodies shape run) body) now → IsInjectorAt shape new after now (with_taken shape run e)
+injector_took shape events new its after seen now run e rest body held front is fed log = record {
   declared = held.declared;
-  sound = held.sound;
+  sound = sound_taken shape run e rest held.sound front;
   fits = held.fits;
-  id = held.id;
-  mapped = held.mapped;
-  clock = held.clock;
-  rows = held.rows;
-  count = held.count;
-  nodes = subst (λ (epoch : ℕ). HoldsNodes new shape.buckets (with_acknowledged epoch (buffered_by shape run))) (ap (max acknowledged) held.last ∙ max-eq_right earlier) (told shape.buckets (with_acknowledged acknowledged (buffered_by shape run)) held.nodes);
-  covered = held.covered;
-  lost = held.lost;
-  outbox = held.outbox;
-  senders = held.senders;
-  events = held.events;
-  written = held.written;
-  last = held.last;
-  log = held.log;
-  length_is = held.length_is;
-  made = held.made;
   few = held.few;
-  size = held.size;
+  fed = fed;
+  log = log_named shape after (inject.limit_of its) (written_bodies shape (with_taken shape run e)) now
+      (subst (λ (bodies : List EpochBody). inject.StandsFor after (setup_of shape its) bodies now) (ap (inject.bodies_with (written_bodies shape run)) is ∙ bodies_taken shape run e rest held.sound front) log);
 }
 
--- how many bodies more are written
-one_more : (shape : Shape) (run : Progress) (e : ℕ) (b : Bool) → has_something_to_log (body_of shape e run.journal) ≡ b → length (worth_logging shape run.journal (e ∷ [])) ≡ cond b 1 0
-one_more shape run e true same = rw same refl
-one_more shape run e false same = rw same refl
+-- nothing was taken
+pub injector_same : (shape : Shape) (events new : EventBuffer) (its : Injector) (seen : ℕ → List ℕ) (run : Progress) → IsInjectorAt shape events its seen run → StandsFor new (fed_by shape run) → IsInjectorAt shape new its seen run
+injector_same shape events new its seen run held fed = record { declared = held.declared; sound = held.sound; fits = held.fits; few = held.few; fed = fed; log = held.log }
 
--- an epoch without anything to log
-pub site_passed : {acknowledged : ℕ} → (shape : Shape) (old : Site) (new : EventBuffer) (file : List ℕ) (run : Progress) (e : ℕ) (rest : List ℕ) → IsSiteAt acknowledged shape old file run → takeable shape run ≡ e ∷ rest →
-    has_something_to_log (body_of shape e run.journal) ≡ false → StandsFor new (fed_by shape (with_taken shape run e)) → IsSiteAt acknowledged shape (record old { events = new }) file (with_taken shape run e)
-site_passed shape old new file run e rest held front none events =
-    let bodies = bodies_without shape run e rest held.sound front none in record {
-      declared = held.declared;
-      sound = sound_taken shape run e rest held.sound front;
-      fits = held.fits;
-      id = held.id;
-      mapped = held.mapped;
-      clock = held.clock;
-      rows = held.rows;
-      count = held.count;
-      nodes = held.nodes;
-      covered = owners_covered shape (with_taken shape run e) (covered_taken shape run e rest held.sound front (run_covered shape run held.covered));
-      lost = held.lost;
-      outbox = held.outbox;
-      senders = held.senders;
-      events = events;
-      written = (let w = held.written in let m = one_more shape run e false none in omega arith);
-      last = held.last ∙ ap last_epoch (sym bodies);
-      log = subst (λ (bs : List EpochBody). IsLogOf bs file) (sym bodies) held.log;
-      length_is = held.length_is;
-      made = held.made;
-      few = held.few;
-      size = subst (λ (bs : List EpochBody). length file ≤ 115 + most_of_change * changes_in_bodies bs) (sym bodies) held.size;
-    }
-
-last_of_more : (bodies : List EpochBody) (body : EpochBody) → last_epoch (bodies ++ body ∷ []) ≡ body.epoch.0
-last_of_more bodies body = ap (λ (es : List ℕ). unwrap_or (last_or None es) 0) (map-append (λ (b : EpochBody). b.epoch.0) bodies (body ∷ [])) ∙ ap (λ (o : Option ℕ). unwrap_or o 0) (last_end None (map (λ (b : EpochBody). b.epoch.0) bodies) body.epoch.0)
-
-epoch_is : (shape : Shape) (run : Progress) (e : ℕ) → (body_of shape e run.journal).epoch.0 ≡ e
-unfolding body_of
-epoch_is shape run e = refl
-
--- it is the acknowledged one, where it has something to log
-acknowledged_taken : (shape : Shape) (run : Progress) (e : ℕ) (rest : List ℕ) → IsSound shape run → takeable shape run ≡ e ∷ rest → has_something_to_log (body_of shape e run.journal) ≡ true → acknowledged_epoch shape (with_taken shape run e) ≡ e
-acknowledged_taken shape run e rest sound front some = ap last_epoch (bodies_with shape run e rest sound front some) ∙ last_of_more (written_bodies shape run) (body_of shape e run.journal) ∙ epoch_is shape run e
-
--- an epoch whose body was written
-pub site_logged : {acknowledged : ℕ} → (shape : Shape) (old : Site) (new : EventBuffer) (log : LogEnd) (file after : List ℕ) (run : Progress) (e : ℕ) (rest : List ℕ) → IsSiteAt acknowledged shape old file run → takeable shape run ≡ e ∷ rest →
-    has_something_to_log (body_of shape e run.journal) ≡ true → StandsFor new (fed_by shape (with_taken shape run e)) →
-    after ≡ file ++ epoch_bytes (body_of shape e run.journal) (length file) → log.written ≡ old.log.written + 1 → log.last.0 ≡ e → log.length ≡ length file + length (epoch_bytes (body_of shape e run.journal) (length file)) →
-    IsSiteAt acknowledged shape (record old { events = new; log = log }) after (with_taken shape run e)
-site_logged shape old new log file after run e rest held front some events is written last size =
-    let newest = acknowledged_taken shape run e rest held.sound front some in
-    let body = body_of shape e run.journal in
-    let bodies = bodies_with shape run e rest held.sound front some in
-    let n : length after ≡ length file + length (epoch_bytes body (length file)) = ap length is ∙ length-append file (epoch_bytes body (length file)) in
-    let below = room_below shape old file run e rest held front some in
-    let small : length (file ++ epoch_bytes body (length file)) < default_limit = let s = length-append file (epoch_bytes body (length file)) in omega arith in
+-- an image of what a run has written is one of a part of what more is written
+pub part_of : (shape : Shape) (run next : Progress) (whole : List EpochBody) (limit : ℕ) (seen : ℕ → List ℕ) → shape.site ≡ A → IsSound shape next → run.written ≤ next.written → Begins (written_bodies shape next) whole →
+    IsLogImage shape.site limit (written_bodies shape next) seen → HoldsPart limit run.written whole seen
+part_of shape run next whole limit seen a sound least begins image =
+    let n = count_is shape next sound in
+    let all : length whole ≡ length (written_bodies shape next) + length begins.rest = ap length begins.whole_is ∙ length-append (written_bodies shape next) begins.rest in
+    let front : take next.written whole ≡ written_bodies shape next =
+    ap (take next.written) begins.whole_is ∙ take-append-le next.written (written_bodies shape next) begins.rest (omega arith) ∙ take_all next.written (written_bodies shape next) (omega arith) in
     record {
-      declared = held.declared;
-      sound = sound_taken shape run e rest held.sound front;
-      fits = held.fits;
-      id = held.id;
-      mapped = held.mapped;
-      clock = held.clock;
-      rows = held.rows;
-      count = held.count;
-      nodes = held.nodes;
-      covered = owners_covered shape (with_taken shape run e) (covered_taken shape run e rest held.sound front (run_covered shape run held.covered));
-      lost = held.lost;
-      outbox = held.outbox;
-      senders = held.senders;
-      events = events;
-      written = (let w = held.written in let m = one_more shape run e true some in let o = written in omega arith);
-      last = last ∙ sym newest;
-      log = subst (λ (bs : List EpochBody). IsLogOf bs after) (sym bodies)
-          (subst (IsLogOf (written_bodies shape run ++ body ∷ [])) (sym is) (one_file_more A default_limit (written_bodies shape run) body file held.log small));
-      length_is = size ∙ sym n;
-      made = held.made;
-      few = held.few;
-      size = (let room = room_for shape old file run e rest held front some in omega arith);
+      count = next.written;
+      least_are_there = least;
+      within = omega arith;
+      image = subst (λ (site : SiteId). IsLogImage site limit (take next.written whole) seen) a (subst (λ (bs : List EpochBody). IsLogImage shape.site limit bs seen) (sym front) image);
     }
 
--- so many bodies are written
-pub count_is : (shape : Shape) (run : Progress) → IsSound shape run → length (written_bodies shape run) ≡ run.written
-count_is shape run sound = length-take-le run.written (completed_bodies shape run.journal) (written_within shape run sound)
-
--- the first bodies of those that the turn writes
-turn_begins : (shape : Shape) (run : Progress) → IsSound shape run → Begins (written_bodies shape run) (written_bodies shape (injected shape run))
+-- the turn begins with what is written
+pub turn_begins : (shape : Shape) (run : Progress) → IsSound shape run → Begins (written_bodies shape run) (written_bodies shape (injected shape run))
 turn_begins shape run sound = (goes_taken shape run (takeable shape run) sound refl).grows
 
--- nothing was written behind the first of these bodies
-pub leaves_first : {acknowledged : ℕ} → (shape : Shape) (site : Site) (file : List ℕ) (run : Progress) (whole : List EpochBody) (fault : SiteFault) → IsSiteAt acknowledged shape site file run → Begins (written_bodies shape run) whole → LeavesLog run.written whole file fault
-leaves_first shape site file run whole fault held begins =
-    let n = count_is shape run held.sound in
-    let all : length whole ≡ length (written_bodies shape run) + length begins.rest = ap length begins.whole_is ∙ length-append (written_bodies shape run) begins.rest in
-    let front : take run.written whole ≡ written_bodies shape run =
-    ap (take run.written) begins.whole_is ∙ take-append-le run.written (written_bodies shape run) begins.rest (omega arith) ∙ take_all run.written (written_bodies shape run) (omega arith) in
-    leaves_log run.written whole run.written file fault (omega arith) (omega arith) (subst (λ (bs : List EpochBody). IsLogOf bs file) (sym front) held.log)
-
 -- nothing was written
-pub leaves_same : {acknowledged : ℕ} → (shape : Shape) (site : Site) (file : List ℕ) (run : Progress) (fault : SiteFault) → IsSiteAt acknowledged shape site file run → LeavesLog run.written (written_bodies shape (injected shape run)) file fault
-leaves_same shape site file run fault held = leaves_first shape site file run (written_bodies shape (injected shape run)) fault held (turn_begins shape run held.sound)
+pub part_same : (shape : Shape) (events : EventBuffer) (its : Injector) (seen now : ℕ → List ℕ) (run : Progress) → IsInjectorAt shape events its seen run → IsLogImage shape.site (inject.limit_of its) (written_bodies shape run) now →
+    HoldsPart (inject.limit_of its) run.written (written_bodies shape (injected shape run)) now
+part_same shape events its seen now run held image = part_of shape run run (written_bodies shape (injected shape run)) (inject.limit_of its) now held.declared.primary held.sound (omega arith) (turn_begins shape run held.sound) image
 
--- the next body was torn
-pub leaves_next : {acknowledged : ℕ} → (shape : Shape) (site : Site) (file after : List ℕ) (run : Progress) (e : ℕ) (rest : List ℕ) (fault : SiteFault) → IsSiteAt acknowledged shape site file run → takeable shape run ≡ e ∷ rest →
-    has_something_to_log (body_of shape e run.journal) ≡ true → IsTorn (length (epoch_bytes (body_of shape e run.journal) (length file))) file after fault →
-    LeavesLog run.written (written_bodies shape (injected shape run)) after fault
-leaves_next shape site file after run e rest fault held front some torn =
-    let body = body_of shape e run.journal in
-    let whole = written_bodies shape (injected shape run) in
+-- the next body was
+part_next : (shape : Shape) (events : EventBuffer) (its : Injector) (seen now : ℕ → List ℕ) (run : Progress) (e : ℕ) (rest : List ℕ) → IsInjectorAt shape events its seen run → takeable shape run ≡ e ∷ rest →
+    IsLogImage shape.site (inject.limit_of its) (written_bodies shape (with_taken shape run e)) now → HoldsPart (inject.limit_of its) run.written (written_bodies shape (injected shape run)) now
+part_next shape events its seen now run e rest held front image =
     let next = with_taken shape run e in
-    let later = turn_begins shape next (sound_taken shape run e rest held.sound front) in
-    let is : whole ≡ (written_bodies shape run ++ body ∷ []) ++ later.rest =
-    ap (written_bodies shape) (injected_more shape run e rest held.sound front) ∙ later.whole_is ∙ ap (λ (bs : List EpochBody). bs ++ later.rest) (bodies_with shape run e rest held.sound front some) in
-    let n = count_is shape run held.sound in
-    let parts : whole ≡ written_bodies shape run ++ (body ∷ later.rest) = is ∙ append_assoc (written_bodies shape run) (body ∷ []) later.rest in
-    let all : length whole ≡ length (written_bodies shape run) + suc (length later.rest) = ap length parts ∙ length-append (written_bodies shape run) (body ∷ later.rest) in
-    let first : take run.written whole ≡ written_bodies shape run =
-    ap (take run.written) parts ∙ take-append-le run.written (written_bodies shape run) (body ∷ later.rest) (omega arith) ∙ take_all run.written (written_bodies shape run) (omega arith) in
-    let behind : drop run.written whole ≡ body ∷ later.rest =
-    ap (drop run.written) parts ∙ drop-append-le run.written (written_bodies shape run) (body ∷ later.rest) (omega arith) ∙ ap (λ (bs : List EpochBody). bs ++ (body ∷ later.rest)) (none_left run.written (written_bodies shape run) (omega arith)) in
-    leaves_torn run.written whole run.written file after (length (epoch_bytes body (length file))) fault (omega arith) (omega arith)
-    (subst (λ (bs : List EpochBody). IsLogOf bs file) (sym first) held.log)
-    (sym (ap (λ (bs : List EpochBody). length (next_bytes bs (length file))) behind)) torn
+    let sound = sound_taken shape run e rest held.sound front in
+    part_of shape run next (written_bodies shape (injected shape run)) (inject.limit_of its) now held.declared.primary sound (omega arith)
+    (subst (λ (p : Progress). Begins (written_bodies shape next) (written_bodies shape p)) (sym (injected_more shape run e rest held.sound front)) (turn_begins shape next sound)) image
+
+-- files that read the same are the same image
+front_same : (row : Option IndexRow) (files : List (List ℕ)) (seen now : ℕ → List ℕ) → ((file : ℕ) → now file ≡ seen file) → HoldsUpTo row files seen → HoldsUpTo row files now
+front_same None files seen now same held = tt
+front_same (Some row) files seen now same held = record {
+  before = λ earlier from below. same earlier ∙ held.before earlier from below;
+  front = ap (take row.next_position) (same row.next_file) ∙ held.front;
+}
+
+pub image_same : (site : SiteId) (limit : ℕ) (bodies : List EpochBody) (seen now : ℕ → List ℕ) → ((file : ℕ) → now file ≡ seen file) → IsLogImage site limit bodies seen → IsLogImage site limit bodies now
+image_same site limit bodies seen now same image = record {
+  index = subst (IsIndexImage (index_rows site limit bodies)) (sym (same 0)) image.index;
+  files = front_same (last_or None (index_rows site limit bodies)) (binlog_files site limit bodies) seen now same image.files;
+}
+
+-- what a fault of a call leaves
+pub part_left : (shape : Shape) (events : EventBuffer) (its : Injector) (seen now : ℕ → List ℕ) (run : Progress) (e : ℕ) (rest : List ℕ) (body : EpochBody) → IsInjectorAt shape events its seen run → takeable shape run ≡ e ∷ rest →
+    body ≡ body_of shape e run.journal → (has_something_to_log body ≡ false → (file : ℕ) → now file ≡ seen file) → LeavesImage (setup_of shape its) (written_bodies shape run) body now →
+    HoldsPart (inject.limit_of its) run.written (written_bodies shape (injected shape run)) now
+part_left shape events its seen now run e rest body held front is nothing leaves = go (has_something_to_log body) refl leaves
   where
-    none_left : (n : ℕ) (bs : List EpochBody) → length bs ≤ n → drop n bs ≡ []
-    none_left zero [] over = refl
-    none_left zero (b ∷ bs) over = absurd (omega arith)
-    none_left (suc n) [] over = refl
-    none_left (suc n) (b ∷ bs) over = none_left n bs (omega arith)
+    go : (b : Bool) → has_something_to_log body ≡ b → LeavesImage (setup_of shape its) (written_bodies shape run) body now → HoldsPart (inject.limit_of its) run.written (written_bodies shape (injected shape run)) now
+    go b some (inl image) = part_same shape events its seen now run held image
+    go true some (inr image) =
+        part_next shape events its seen now run e rest held front
+        (subst (λ (bodies : List EpochBody). IsLogImage shape.site (inject.limit_of its) bodies now) (ap (λ (one : EpochBody). written_bodies shape run ++ one ∷ []) is ∙ sym (bodies_with shape run e rest held.sound front (sym (ap has_something_to_log is) ∙ some))) image)
+    go false none (inr image) =
+        part_same shape events its seen now run held
+        (image_same shape.site (inject.limit_of its) (written_bodies shape run) seen now (nothing none) (whole_is_image shape.site (inject.limit_of its) (written_bodies shape run) seen held.log.held))
+
+-- the next epoch is later than the last one that is logged
+pub next_later : (shape : Shape) (events : EventBuffer) (its : Injector) (seen : ℕ → List ℕ) (run : Progress) (assembled : Assembled) → IsInjectorAt shape events its seen run → IsNext shape run assembled → inject.written_of its < assembled.epoch.0
+next_later shape events its seen run assembled held next =
+    omega (arith, written_epoch its (setup_of shape its) (written_bodies shape run) seen held.log, acknowledged_within shape run held.sound, taken_above shape run next.epoch next.rest next.front, next.number)
+
+-- its body can be written
+pub next_writable : (shape : Shape) (events : EventBuffer) (its : Injector) (seen : ℕ → List ℕ) (run : Progress) (assembled : Assembled) → IsInjectorAt shape events its seen run → IsNext shape run assembled → CanBeWritten (inject.body_for its assembled)
+next_writable shape events its seen run assembled held next =
+    subst CanBeWritten (sym (body_made shape events its seen run next.epoch assembled held next.made)) (can_be_written shape next.epoch run.journal held.declared held.fits)
+
+-- it has few changes
+pub next_few : (shape : Shape) (events : EventBuffer) (its : Injector) (seen : ℕ → List ℕ) (run : Progress) (assembled : Assembled) → IsInjectorAt shape events its seen run → IsNext shape run assembled → length (inject.body_for its assembled).changes < 4294967296
+next_few shape events its seen run assembled held next =
+    omega (arith, ap (λ (body : EpochBody). length body.changes) (body_made shape events its seen run next.epoch assembled held next.made), few_changes shape next.epoch run.journal, held.few)
+
+-- it is never too large
+pub next_small : (shape : Shape) (events : EventBuffer) (its : Injector) (seen : ℕ → List ℕ) (run : Progress) (assembled : Assembled) → IsInjectorAt shape events its seen run → IsNext shape run assembled → length (epoch_bytes (inject.body_for its assembled) 0) ≤ 2147483647
+next_small shape events its seen run assembled held next =
+    omega (arith, ap (λ (body : EpochBody). length (epoch_bytes body 0)) (body_made shape events its seen run next.epoch assembled held next.made), few_bytes shape next.epoch run.journal 0 held.declared held.fits, few_changes shape next.epoch run.journal, held.few)
+
+-- and there is a number for one more file
+pub next_file : (shape : Shape) (events : EventBuffer) (its : Injector) (seen : ℕ → List ℕ) (run : Progress) → IsInjectorAt shape events its seen run → inject.last_file_of its < 4294967294
+next_file shape events its seen run held =
+    few_files its (setup_of shape its) (written_bodies shape run) seen held.log (omega (arith, count_is shape run held.sound, written_small shape run held.declared held.sound held.few))
+
+-- what a call leaves that logs it
+pub next_logged : (shape : Shape) (events new : EventBuffer) (its after : Injector) (seen now : ℕ → List ℕ) (run : Progress) (assembled : Assembled) (logged : Bool) → IsInjectorAt shape events its seen run → (next : IsNext shape run assembled) →
+    StandsFor new (fed_by shape (with_taken shape run next.epoch)) → inject.StandsFor after (setup_of shape its) (inject.bodies_with (written_bodies shape run) (body_of_assembled shape.site shape.tables assembled)) now →
+    logged ≡ has_something_to_log (inject.body_for its assembled) → HasTaken shape run new after now (Some logged)
+next_logged shape events new its after seen now run assembled logged held next fed log is = (
+  next.epoch,
+  next.rest,
+  next.front,
+  injector_took shape events new its after seen now run next.epoch next.rest (body_of_assembled shape.site shape.tables assembled) held next.front (body_there shape run next.epoch assembled held.declared next.made) fed log,
+  is ∙ ap has_something_to_log (body_made shape events its seen run next.epoch assembled held next.made),
+)
+
+-- and one that fails
+pub next_failed : (shape : Shape) (events : EventBuffer) (its : Injector) (seen now : ℕ → List ℕ) (run : Progress) (assembled : Assembled) → IsInjectorAt shape events its seen run → IsNext shape run assembled →
+    (has_something_to_log (inject.body_for its assembled) ≡ false → (file : ℕ) → now file ≡ seen file) → LeavesImage (setup_of shape its) (written_bodies shape run) (body_of_assembled shape.site shape.tables assembled) now →
+    HoldsPart (inject.limit_of its) run.written (written_bodies shape (injected shape run)) now
+next_failed shape events its seen now run assembled held next nothing leaves =
+    let there = body_there shape run next.epoch assembled held.declared next.made in
+    part_left shape events its seen now run next.epoch next.rest (body_of_assembled shape.site shape.tables assembled) held next.front there
+    (λ none. nothing (ap has_something_to_log (body_made shape events its seen run next.epoch assembled held next.made ∙ sym there) ∙ none)) leaves

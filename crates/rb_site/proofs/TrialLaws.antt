@@ -52,34 +52,34 @@ insert_fits : (replicas key number : ℕ) → AllByRecursion (OperationFits (one
 insert_fits replicas key number = (record { declared = (omega arith, omega arith); row = record { keyed = refl; fits = (tt, (tt, tt)) } }, tt)
 
 -- a site that has taken so many events
-pub record IsEarly (replicas : ℕ) (site : Site) (file : List ℕ) (run : Progress) (count : ℕ) : Type 0 where
-  pub held : IsSite (one_group replicas) site file run
+pub record IsEarly (replicas : ℕ) (site : Site) (seen : ℕ → List ℕ) (run : Progress) (count : ℕ) : Type 0 where
+  pub held : IsSite (one_group replicas) site seen run
   pub made : all_changes (one_group replicas) run.journal ≤ count
   pub drawn : run.drawn ≤ count
   pub opened : run.opened ≤ 4294967296 * (count + 1)
 
-early_fits : (replicas : ℕ) (site : Site) (file : List ℕ) (run : Progress) (count key number : ℕ) → count ≤ 10 → IsEarly replicas site file run count → EventFits (one_group replicas) site (insert key number)
-early_fits replicas site file run count key number few early = record {
+early_fits : (replicas : ℕ) (site : Site) (seen : ℕ → List ℕ) (run : Progress) (count key number : ℕ) → count ≤ 10 → IsEarly replicas site seen run count → EventFits (one_group replicas) site (insert key number)
+early_fits replicas site seen run count key number few early = record {
   fit = insert_fits replicas key number;
   room = (let m = early.held.made in let made = early.made in omega arith);
   number = (let n : site.clock.drawn ≡ run.drawn = ap (λ (h : Hand). h.drawn) early.held.clock in let drawn = early.drawn in omega arith);
 }
 
 -- it can insert a row
-pub can_insert : (replicas : ℕ) (site : Site) (file : List ℕ) (run : Progress) (event : SiteEvent) (count key number : ℕ) → event ≡ insert key number → count ≤ 10 → IsEarly replicas site file run count → CanTake site file event
-can_insert replicas site file run event count key number same few early =
-    (one_group replicas, run, early.held, subst (EventFits (one_group replicas) site) (sym same) (early_fits replicas site file run count key number few early))
+pub can_insert : (replicas : ℕ) (site : Site) (seen : ℕ → List ℕ) (run : Progress) (event : SiteEvent) (count key number : ℕ) → event ≡ insert key number → count ≤ 10 → IsEarly replicas site seen run count → CanTake site seen event
+can_insert replicas site seen run event count key number same few early =
+    (one_group replicas, run, early.held, subst (EventFits (one_group replicas) site) (sym same) (early_fits replicas site seen run count key number few early))
 
 -- close an epoch
-pub close_fits : (replicas : ℕ) (site : Site) (file : List ℕ) (run : Progress) (count : ℕ) → count ≤ 10 → IsEarly replicas site file run count → EventFits (one_group replicas) site (Close false)
-close_fits replicas site file run count few early =
+pub close_fits : (replicas : ℕ) (site : Site) (seen : ℕ → List ℕ) (run : Progress) (count : ℕ) → count ≤ 10 → IsEarly replicas site seen run count → EventFits (one_group replicas) site (Close false)
+close_fits replicas site seen run count few early =
     let o : site.clock.opened ≡ run.opened = ap (λ (h : Hand). h.opened) early.held.clock in
     let opened = early.opened in
     omega arith
 
 -- and start a node again
-pub restart_fits : (replicas : ℕ) (site : Site) (file : List ℕ) (run : Progress) (count : ℕ) → 1 ≤ replicas → count ≤ 10 → IsEarly replicas site file run count → EventFits (one_group replicas) site (Restart 0)
-restart_fits replicas site file run count some few early =
+pub restart_fits : (replicas : ℕ) (site : Site) (seen : ℕ → List ℕ) (run : Progress) (count : ℕ) → 1 ≤ replicas → count ≤ 10 → IsEarly replicas site seen run count → EventFits (one_group replicas) site (Restart 0)
+restart_fits replicas site seen run count some few early =
     let o : site.clock.opened ≡ run.opened = ap (λ (h : Hand). h.opened) early.held.clock in
     let opened = early.opened in
     (omega arith, omega arith)
@@ -91,18 +91,18 @@ after_insert replicas key number run = (site_step (one_group replicas) run (inse
 abbrev pub after_failure : (replicas : ℕ) → Progress → Progress
 after_failure replicas run = (site_step (one_group replicas) run (Fail 0)).run
 
-pub begins : (replicas : ℕ) (site : Site) (file : List ℕ) (schemas : List Schema) → schemas ≡ one_table → IsSite (shape_of schemas 1 replicas) site file (beginning 1 replicas) → IsEarly replicas site file (beginning 1 replicas) 0
-begins replicas site file schemas same held = record {
-  held = subst (λ (ss : List Schema). IsSite (shape_of ss 1 replicas) site file (beginning 1 replicas)) same held;
+pub begins : (replicas : ℕ) (site : Site) (seen : ℕ → List ℕ) (schemas : List Schema) → schemas ≡ one_table → IsSite (shape_of schemas 1 replicas) site seen (beginning 1 replicas) → IsEarly replicas site seen (beginning 1 replicas) 0
+begins replicas site seen schemas same held = record {
+  held = subst (λ (ss : List Schema). IsSite (shape_of ss 1 replicas) site seen (beginning 1 replicas)) same held;
   made = omega arith;
   drawn = omega arith;
   opened = omega arith;
 }
 
 -- what a step gives
-abbrev pub Steps : (old new : Site) (file after : List ℕ) (event : SiteEvent) → Outcome → Type 0
-Steps old new file after event outcome =
-    (shape : Shape) (run : Progress) → IsSite shape old file run → EventFits shape old event → IsSite shape new after (site_step shape run event).run × (outcome ≡ (site_step shape run event).outcome)
+abbrev pub Steps : (old new : Site) (seen after : ℕ → List ℕ) (event : SiteEvent) → Outcome → Type 0
+Steps old new seen after event outcome =
+    (shape : Shape) (run : Progress) → IsSite shape old seen run → EventFits shape old event → IsSite shape new after (site_step shape run event).run × (outcome ≡ (site_step shape run event).outcome)
 
 -- an event of a script is one event, with its changes
 event_counts : (shape : Shape) (run : Progress) (event : Event) → Counted shape run (event_step shape run event).run 1 (changes_in_event event)
@@ -123,21 +123,21 @@ unfolding site_step event_step
 failure_counts shape run node = event_counts shape run (events.Fail A node)
 
 -- a site behind one event more
-one_more : (replicas : ℕ) (old new : Site) (file after : List ℕ) (run next : Progress) (count changes : ℕ) → IsEarly replicas old file run count → IsSite (one_group replicas) new after next → Counted (one_group replicas) run next 1 changes → changes ≤ 1 → IsEarly replicas new after next (count + 1)
-one_more replicas old new file after run next count changes early held counts few = record {
+one_more : (replicas : ℕ) (old new : Site) (seen after : ℕ → List ℕ) (run next : Progress) (count changes : ℕ) → IsEarly replicas old seen run count → IsSite (one_group replicas) new after next → Counted (one_group replicas) run next 1 changes → changes ≤ 1 → IsEarly replicas new after next (count + 1)
+one_more replicas old new seen after run next count changes early held counts few = record {
   held = held;
   made = (let before = early.made in let more = counts.changes_are in omega arith);
   drawn = (let before = early.drawn in let more = counts.drawn in omega arith);
   opened = (let before = early.opened in let more = counts.opened in omega arith);
 }
 
-pub inserted : (replicas : ℕ) (old new : Site) (file after : List ℕ) (run : Progress) (event : SiteEvent) (outcome : Outcome) (count key number : ℕ) → event ≡ insert key number → count ≤ 10 → IsEarly replicas old file run count → Steps old new file after event outcome → IsEarly replicas new after (after_insert replicas key number run) (count + 1)
-inserted replicas old new file after run event outcome count key number same few early step =
-    one_more replicas old new file after run (after_insert replicas key number run) count 1 early
+pub inserted : (replicas : ℕ) (old new : Site) (seen after : ℕ → List ℕ) (run : Progress) (event : SiteEvent) (outcome : Outcome) (count key number : ℕ) → event ≡ insert key number → count ≤ 10 → IsEarly replicas old seen run count → Steps old new seen after event outcome → IsEarly replicas new after (after_insert replicas key number run) (count + 1)
+inserted replicas old new seen after run event outcome count key number same few early step =
+    one_more replicas old new seen after run (after_insert replicas key number run) count 1 early
     (subst (λ (e : SiteEvent). IsSite (one_group replicas) new after (site_step (one_group replicas) run e).run) same
-    (step (one_group replicas) run early.held (subst (EventFits (one_group replicas) old) (sym same) (early_fits replicas old file run count key number few early))).0)
+    (step (one_group replicas) run early.held (subst (EventFits (one_group replicas) old) (sym same) (early_fits replicas old seen run count key number few early))).0)
     (insert_counts (one_group replicas) run key number) (omega arith)
 
-pub failed : (replicas : ℕ) (old new : Site) (file after : List ℕ) (run : Progress) (outcome : Outcome) (count : ℕ) → 1 ≤ replicas → IsEarly replicas old file run count → Steps old new file after (Fail 0) outcome → IsEarly replicas new after (after_failure replicas run) (count + 1)
-failed replicas old new file after run outcome count some early step =
-    one_more replicas old new file after run (after_failure replicas run) count 0 early (step (one_group replicas) run early.held (omega arith)).0 (failure_counts (one_group replicas) run 0) (omega arith)
+pub failed : (replicas : ℕ) (old new : Site) (seen after : ℕ → List ℕ) (run : Progress) (outcome : Outcome) (count : ℕ) → 1 ≤ replicas → IsEarly replicas old seen run count → Steps old new seen after (Fail 0) outcome → IsEarly replicas new after (after_failure replicas run) (count + 1)
+failed replicas old new seen after run outcome count some early step =
+    one_more replicas old new seen after run (after_failure replicas run) count 0 early (step (one_group replicas) run early.held (omega arith)).0 (failure_counts (one_group replicas) run 0) (omega arith)

@@ -1,8 +1,11 @@
 -- The injector's turn, one epoch after the other.
-use Rattle.std.proofs.Common.{◌≡◌, ℕ, ◌+◌, ◌-◌, ◌<◌, ◌≤◌, Bool, true, false, cond, List, [], ◌∷◌, length, refl, sym, ap, subst, ◌∙◌, arith, length-append}
-use Rattle.std.specs.Prelude.{Option, Some, None, unwrap_or}
+use Rattle.std.proofs.Common.{◌≡◌, ℕ, ◌+◌, ◌<◌, ◌≤◌, Bool, true, false, cond, List, [], ◌∷◌, length, refl, sym, ap, subst, ◌∙◌, arith, length-append}
+use Rattle.std.specs.Prelude.{max, Option, Some, None, unwrap_or}
+use Rattle.std.proofs.Math.Nat.{max-eq_right}
 use Rattle.std.proofs.lemmas.List.Elements.{filter-append}
 use Rattle.rb_base.specs.declared.epoch.Epoch.{Epoch}
+use Rattle.rb_base.specs.declared.body.EpochBody.{EpochBody}
+use Rattle.rb_text_defs.specs.Script.{most_changes}
 use Rattle.rb_base.specs.declared.outcome.Outcome.TheVariants as outcomes
 use Rattle.rb_journal_defs.specs.Body.{Shape, body_of, has_something_to_log}
 use Rattle.rb_journal_defs.proofs.Order.{first_is_above}
@@ -11,36 +14,40 @@ use Rattle.rb_message_defs.specs.Received.{Fed, AreChained, missing_of}
 use Rattle.rb_message_defs.proofs.Chained.{are_chained}
 use Rattle.rb_evbuf.specs.Buffer.{StandsFor, last_of}
 use Rattle.rb_play_defs.specs.Step.{Progress, fed_by, takeable, worth_logging, written_bodies, last_epoch, acknowledged_epoch, with_taken, injected, missing_behind, injection_of, inject_step}
-use Rattle.rb_play_defs.proofs.Sounds.{last_below_opened}
 use Rattle.rb_play_defs.proofs.Takes.{takeable_rest, injected_more, injected_end, front_of}
 use Rattle.rb_play_defs.proofs.Covering.{acknowledged_rises}
-use Rattle.rb_site.specs.Fault.{LeavesLog}
-use Rattle.rb_site.specs.Inject.{HasTaken}
-use Rattle.rb_site.specs.Site.{IsSite, IsSiteAt, opened_of}
-use Rattle.rb_site.specs.declared.fault.SiteFault.{SiteFault}
-use Rattle.rb_site.specs.declared.site.Site.{Site}
-use Rattle.rb_site.proofs.Device.{least_of_fewer}
-use Rattle.rb_commit.specs.Hand.{Hand}
+use Rattle.rb_inject.specs.Injector as inject
+use Rattle.rb_inject.specs.declared.injector.Injector.{Injector}
+use Rattle.rb_evbuf.specs.declared.buffer.EventBuffer.{EventBuffer}
+use Rattle.rb_play_defs.specs.Part.{HoldsPart}
+use Rattle.rb_play_defs.specs.Sound.{IsSound}
+use Rattle.rb_play_defs.proofs.Covering.{IsCovered, covered_taken, acknowledged_below}
+use Rattle.rb_play_defs.proofs.Takes.{sound_taken}
+use Rattle.rb_site.specs.Inject.{IsInjectorAt, HasTaken}
+use Rattle.rb_site.specs.Nodes.{Buffered, HoldsNodes, with_acknowledged, CanAcknowledge}
+use Rattle.rb_site.specs.Site.{IsSite, buffered_by, setup_of}
+use Rattle.rb_site.specs.Stepped.{IsStoppedSite, site_of}
+use Rattle.rb_site.specs.declared.nodes.Nodes.{Nodes}
+use Rattle.rb_site.specs.declared.stepped.StoppedSite.{StoppedSite}
+use Rattle.rb_site.proofs.InjectLaws.{written_small}
+use Rattle.rb_site.proofs.LogLaws.{written_epoch}
+use Rattle.rb_site.proofs.StandLaws.{site_stands}
+use Rattle.rb_site.proofs.TakeLaws.{owners_covered, run_covered}
 
 -- some of the epochs are taken
-pub record IsTurning (shape : Shape) (run : Progress) (site : Site) (file : List ℕ) (count : ℕ) : Type 0 where
+pub record IsTurning (shape : Shape) (run : Progress) (events : EventBuffer) (its : Injector) (seen : ℕ → List ℕ) (count : ℕ) : Type 0 where
   pub now : Progress
-  pub held : IsSiteAt (acknowledged_epoch shape run) shape site file now
-  pub told : acknowledged_epoch shape run ≤ acknowledged_epoch shape now
+  pub held : IsInjectorAt shape events its seen now
   pub goal : injected shape now ≡ injected shape run
   pub journal : now.journal ≡ run.journal
   pub least : run.written ≤ now.written
   pub counted : count + length (worth_logging shape now.journal (takeable shape now)) ≡ length (worth_logging shape run.journal (takeable shape run))
   pub few : count ≤ now.written
 
--- none is yet
-pub turn_starts : (shape : Shape) (run : Progress) (site : Site) (file : List ℕ) → IsSite shape site file run → IsTurning shape run site file 0
-turn_starts shape run site file held = record { now = run; held = held; told = omega arith; goal = refl; journal = refl; least = omega arith; counted = omega arith; few = omega arith }
-
 -- one more is
-pub turn_more : (shape : Shape) (run : Progress) (old new : Site) (file after : List ℕ) (count more : ℕ) (logged : Bool) (turning : IsTurning shape run old file count) →
-    HasTaken (acknowledged_epoch shape run) shape turning.now new after (Some logged) → more ≡ count + cond logged 1 0 → IsTurning shape run new after more
-turn_more shape run old new file after count more logged turning (e, rest, front, held, is) n =
+pub turn_more : (shape : Shape) (run : Progress) (events new : EventBuffer) (its next : Injector) (seen after : ℕ → List ℕ) (count more : ℕ) (logged : Bool) (turning : IsTurning shape run events its seen count) →
+    HasTaken shape turning.now new next after (Some logged) → more ≡ count + cond logged 1 0 → IsTurning shape run new next after more
+turn_more shape run events new its next seen after count more logged turning (e, rest, front, held, is) n =
     let now = turning.now in
     let sound = turning.held.sound in
     let later = takeable_rest shape now e rest sound front in
@@ -53,12 +60,9 @@ turn_more shape run old new file after count more logged turning (e, rest, front
     let before = turning.counted in
     let few = turning.few in
     let least = turning.least in
-    let told = turning.told in
-    let rises = acknowledged_rises shape now e rest sound front in
     record {
       now = with_taken shape now e;
       held = held;
-      told = omega arith;
       goal = sym (injected_more shape now e rest sound front) ∙ turning.goal;
       journal = turning.journal;
       least = omega arith;
@@ -73,47 +77,88 @@ turn_more shape run old new file after count more logged turning (e, rest, front
         by_case true same = rw same refl
         by_case false same = rw same refl
 
--- the last taken epoch comes nearer to the open one
-pub turn_smaller : (shape : Shape) (run : Progress) (old new : Site) (file after : List ℕ) (count : ℕ) (logged : Bool) (turning : IsTurning shape run old file count) →
-    HasTaken (acknowledged_epoch shape run) shape turning.now new after (Some logged) → opened_of new - last_of new.events < opened_of old - last_of old.events
-turn_smaller shape run old new file after count logged turning (e, rest, front, held, is) =
+-- the last taken epoch rises
+pub turn_rises : (shape : Shape) (run : Progress) (events new : EventBuffer) (its next : Injector) (seen after : ℕ → List ℕ) (count : ℕ) (logged : Bool) (turning : IsTurning shape run events its seen count) →
+    HasTaken shape turning.now new next after (Some logged) → last_of events < last_of new
+turn_rises shape run events new its next seen after count logged turning (e, rest, front, held, is) =
     let now = turning.now in
     let ahead = front_of shape now e rest front in
     let above : now.last < e = first_is_above now.last e _ ahead.0 ahead.1 in
-    let below : e < now.opened = last_below_opened shape (with_taken shape now e) held.sound in
-    let before : last_of old.events ≡ now.last = turning.held.events.last in
-    let behind : last_of new.events ≡ e = held.events.last in
-    let opened : opened_of old ≡ now.opened = ap (λ (h : Hand). h.opened) turning.held.clock in
-    let opens : opened_of new ≡ now.opened = ap (λ (h : Hand). h.opened) held.clock in
+    let before : last_of events ≡ now.last = turning.held.fed.last in
+    let behind : last_of new ≡ e = held.fed.last in
     omega arith
 
--- what a fault leaves
-pub turn_stops : (shape : Shape) (run : Progress) (site : Site) (file after : List ℕ) (count : ℕ) (fault : SiteFault) (turning : IsTurning shape run site file count) →
-    LeavesLog turning.now.written (written_bodies shape (injected shape turning.now)) after fault → LeavesLog run.written (written_bodies shape (injected shape run)) after fault
-turn_stops shape run site file after count fault turning leaves =
-    least_of_fewer turning.now.written run.written (written_bodies shape (injected shape run)) after fault turning.least
-    (subst (λ (p : Progress). LeavesLog turning.now.written (written_bodies shape p) after fault) turning.goal leaves)
+-- how many are logged is a small number
+pub turn_few : (shape : Shape) (run : Progress) (events : EventBuffer) (its : Injector) (seen : ℕ → List ℕ) (count : ℕ) → IsTurning shape run events its seen count → count ≤ most_changes
+turn_few shape run events its seen count turning =
+    let held = turning.held in
+    omega (arith, turning.few, written_small shape turning.now held.declared held.sound held.few)
 
 -- no epoch is left
-pub turn_ends : (shape : Shape) (run : Progress) (old new : Site) (file after : List ℕ) (count : ℕ) (turning : IsTurning shape run old file count) → HasTaken (acknowledged_epoch shape run) shape turning.now new after None →
-    IsSiteAt (acknowledged_epoch shape run) shape new after (injected shape run) × (acknowledged_epoch shape run ≤ acknowledged_epoch shape (injected shape run)) × (count ≡ length (worth_logging shape run.journal (takeable shape run)))
-turn_ends shape run old new file after count turning (none, held) =
+pub turn_ends : (shape : Shape) (run : Progress) (events new : EventBuffer) (its next : Injector) (seen after : ℕ → List ℕ) (count : ℕ) (turning : IsTurning shape run events its seen count) → HasTaken shape turning.now new next after None →
+    IsInjectorAt shape new next after (injected shape run) × (count ≡ length (worth_logging shape run.journal (takeable shape run)))
+turn_ends shape run events new its next seen after count turning (none, held) =
     let z : length (worth_logging shape turning.now.journal (takeable shape turning.now)) ≡ 0 = ap (λ (es : List ℕ). length (worth_logging shape turning.now.journal es)) none in
     let counted = turning.counted in
     let end : turning.now ≡ injected shape run = sym (injected_end shape turning.now none) ∙ turning.goal in
-    (subst (IsSiteAt (acknowledged_epoch shape run) shape new after) end held, subst (λ (p : Progress). acknowledged_epoch shape run ≤ acknowledged_epoch shape p) end turning.told, omega arith)
+    (subst (IsInjectorAt shape new next after) end held, omega arith)
 
--- the answer to the turn
-pub turn_outcome : (shape : Shape) (run : Progress) (site : Site) (file : List ℕ) (count : ℕ) (found : Option Missing) (missing : Missing) → IsSite shape site file (injected shape run) → count ≡ length (worth_logging shape run.journal (takeable shape run)) →
-    ((fed : Fed) → StandsFor site.events fed → AreChained fed.received → found ≡ missing_of fed) → missing ≡ unwrap_or found (record { bucket = 0; place = None }) →
-    IsSite shape site file (inject_step shape run).run × (outcomes.Wrote count site.log.last missing.bucket missing.place ≡ (inject_step shape run).outcome)
+-- the turn leaves all buckets covered, and the acknowledged epoch never falls
+turn_keeps : (shape : Shape) (run : Progress) (es : List ℕ) → IsSound shape run → takeable shape run ≡ es → IsCovered shape run → IsCovered shape (injected shape run) × (acknowledged_epoch shape run ≤ acknowledged_epoch shape (injected shape run))
+turn_keeps shape run [] sound same covered = subst (λ (p : Progress). IsCovered shape p × (acknowledged_epoch shape run ≤ acknowledged_epoch shape p)) (sym (injected_end shape run same)) (covered, omega arith)
+turn_keeps shape run (e ∷ rest) sound same covered =
+    let rest_keeps = turn_keeps shape (with_taken shape run e) rest (sound_taken shape run e rest sound same) (takeable_rest shape run e rest sound same) (covered_taken shape run e rest sound same covered) in
+    let more : acknowledged_epoch shape (with_taken shape run e) ≤ acknowledged_epoch shape (injected shape (with_taken shape run e)) = rest_keeps.1 in
+    let rises = acknowledged_rises shape run e rest sound same in
+    subst (λ (p : Progress). IsCovered shape p × (acknowledged_epoch shape run ≤ acknowledged_epoch shape p)) (sym (injected_more shape run e rest sound same))
+    (rest_keeps.0, omega arith)
+
+-- the nodes can be told of the last epoch that is written
+pub can_acknowledge : (shape : Shape) (rest : StoppedSite) (events : EventBuffer) (its : Injector) (seen : ℕ → List ℕ) (run : Progress) → IsStoppedSite shape rest run → IsInjectorAt shape events its seen (injected shape run) →
+    CanAcknowledge rest.nodes (inject.written_of its)
+can_acknowledge shape rest events its seen run held turned =
+    let is = written_epoch its (setup_of shape its) (written_bodies shape (injected shape run)) seen turned.log in
+    let below = acknowledged_below shape (injected shape run) turned.sound in
+    (shape.buckets, buffered_by shape run, held.nodes, omega arith)
+
+-- and were
+pub rest_turned : (shape : Shape) (rest : StoppedSite) (nodes : Nodes) (events : EventBuffer) (its : Injector) (seen : ℕ → List ℕ) (run : Progress) (through : ℕ) → IsStoppedSite shape rest run → IsInjectorAt shape events its seen (injected shape run) →
+    through ≡ inject.written_of its →
+    ((buckets : ℕ) (site : Buffered) → HoldsNodes rest.nodes buckets site → HoldsNodes nodes buckets (with_acknowledged (max site.acknowledged through) site)) →
+    IsStoppedSite shape (record rest { nodes = nodes }) (injected shape run)
+rest_turned shape rest nodes events its seen run through held turned is told =
+    let keeps = turn_keeps shape run (takeable shape run) held.sound refl (run_covered shape run held.covered) in
+    let last : through ≡ acknowledged_epoch shape (injected shape run) = is ∙ written_epoch its (setup_of shape its) (written_bodies shape (injected shape run)) seen turned.log in
+    record {
+      declared = held.declared;
+      sound = turned.sound;
+      fits = held.fits;
+      id = held.id;
+      mapped = held.mapped;
+      clock = held.clock;
+      rows = held.rows;
+      count = held.count;
+      nodes = subst (λ (epoch : ℕ). HoldsNodes nodes shape.buckets (with_acknowledged epoch (buffered_by shape run))) (ap (max (acknowledged_epoch shape run)) last ∙ max-eq_right keeps.1) (told shape.buckets (buffered_by shape run) held.nodes);
+      covered = owners_covered shape (injected shape run) keeps.0;
+      lost = held.lost;
+      outbox = held.outbox;
+      senders = held.senders;
+      made = held.made;
+      few = held.few;
+    }
+
+-- the site behind the turn, and the answer
+pub turn_outcome : (shape : Shape) (run : Progress) (rest : StoppedSite) (events : EventBuffer) (its : Injector) (seen : ℕ → List ℕ) (count : ℕ) (written : Epoch) (found : Option Missing) (missing : Missing) → IsStoppedSite shape rest (injected shape run) →
+    IsInjectorAt shape events its seen (injected shape run) → written.0 ≡ inject.written_of its → count ≡ length (worth_logging shape run.journal (takeable shape run)) →
+    ((fed : Fed) → StandsFor events fed → AreChained fed.received → found ≡ missing_of fed) → missing ≡ unwrap_or found (record { bucket = 0; place = None }) →
+    IsSite shape (site_of rest events its) seen (inject_step shape run).run × (outcomes.Wrote count written missing.bucket missing.place ≡ (inject_step shape run).outcome)
 unfolding inject_step injection_of
-turn_outcome shape run site file count found missing held counted answers is =
+turn_outcome shape run rest events its seen count written found missing held turned last counted answers is =
     let after = injected shape run in
-    let last : site.log.last ≡ record { 0 = last_epoch (written_bodies shape after) } = ap (λ (n : ℕ). record { 0 = n }) held.last in
-    let there : missing ≡ missing_behind shape after = is ∙ ap (λ (o : Option Missing). unwrap_or o (record { bucket = 0; place = None })) (answers (fed_by shape after) held.events (are_chained shape after.opened after.journal after.received held.sound.order held.sound.received)) in (
-      held,
-      ap (λ (n : ℕ). outcomes.Wrote n site.log.last missing.bucket missing.place) counted
-          ∙ ap (λ (x : Epoch). outcomes.Wrote (length (worth_logging shape run.journal (takeable shape run))) x missing.bucket missing.place) last
+    let through : written ≡ record { 0 = last_epoch (written_bodies shape after) } = ap (λ (n : ℕ). record { 0 = n }) (last ∙ written_epoch its (setup_of shape its) (written_bodies shape after) seen turned.log) in
+    let there : missing ≡ missing_behind shape after = is ∙ ap (λ (o : Option Missing). unwrap_or o (record { bucket = 0; place = None })) (answers (fed_by shape after) turned.fed (are_chained shape after.opened after.journal after.received held.sound.order held.sound.received)) in (
+      site_stands shape rest events its seen after held turned.fed turned.log,
+      ap (λ (n : ℕ). outcomes.Wrote n written missing.bucket missing.place) counted
+          ∙ ap (λ (x : Epoch). outcomes.Wrote (length (worth_logging shape run.journal (takeable shape run))) x missing.bucket missing.place) through
           ∙ ap (λ (m : Missing). outcomes.Wrote (length (worth_logging shape run.journal (takeable shape run))) (record { 0 = last_epoch (written_bodies shape after) }) m.bucket m.place) there,
     )

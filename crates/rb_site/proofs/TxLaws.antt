@@ -1,5 +1,5 @@
 -- What a client's transaction leaves of a site.
-use Rattle.std.proofs.Common.{◌≡◌, ℕ, ◌+◌, ◌*◌, ◌≤◌, Bool, true, false, cond, List, [], ◌∷◌, ◌++◌, length, map, take, refl, sym, ap, subst, ◌∙◌, arith}
+use Rattle.std.proofs.Common.{◌≡◌, ℕ, ◌+◌, Bool, true, false, cond, List, [], ◌∷◌, ◌++◌, length, map, take, refl, sym, ap, subst, ◌∙◌, arith}
 use Rattle.std.specs.Prelude.{◌==◌, Result, Ok, Err, IfOk, Option, Some, None, sum_by}
 use Rattle.std.specs.List.{AllByRecursion, filter_map, cons_option, list_any, enumerate_from}
 use Rattle.std.specs.Option.{option_map, option_map_or}
@@ -25,7 +25,8 @@ use Rattle.rb_message_defs.specs.Nodes.{owner_in}
 use Rattle.rb_store.specs.Tables.{rows_in, tables_in}
 use Rattle.rb_play_defs.specs.Step.{Progress, Stepped, unchanged, refused, rows_of, tx_changes, committed, commit_outcome, tx_step, fed_by, written_bodies, last_epoch, acknowledged_epoch, failed_in}
 use Rattle.rb_play_defs.specs.Fitting.{FitsTables}
-use Rattle.rb_play_defs.specs.Part.{IsLogOf}
+use Rattle.rb_inject.specs.Injector as inject
+use Rattle.rb_inject.specs.declared.injector.Injector.{Injector}
 use Rattle.rb_play_defs.proofs.Sounds.{closed_all_below, sound_commit}
 use Rattle.rb_play_defs.proofs.Fits.{changes_fit}
 use Rattle.rb_evbuf.specs.Buffer.{StandsFor}
@@ -34,9 +35,8 @@ use Rattle.rb_site.specs.Outbox.{HoldsSent, count_in, nodes_in}
 use Rattle.rb_base.specs.declared.epoch.Epoch.{Epoch}
 use Rattle.rb_site.specs.Outcome.{outcome_of_fault}
 use Rattle.rb_site.specs.Rows.{CanBeStored}
-use Rattle.rb_site.specs.Site.{IsSite, TxFits, buffered_by, closes_of, loss_of, most_of_change, changes_in_bodies}
+use Rattle.rb_site.specs.Site.{IsSite, TxFits, buffered_by, closes_of, loss_of, setup_of}
 use Rattle.rb_site.specs.declared.site.Site.{Site}
-use Rattle.rb_site.specs.declared.site.LogEnd.{LogEnd}
 use Rattle.rb_commit.specs.Hand.{Hand}
 use Rattle.rb_evbuf.specs.declared.buffer.EventBuffer.{EventBuffer}
 use Rattle.rb_base.specs.declared.body.EpochBody.{EpochBody}
@@ -97,14 +97,14 @@ buffered_committed shape run operations changes is bodies =
     }) (sym bodies)
 
 -- a site that accepted a transaction, however its parts are made
-pub site_committed : (shape : Shape) (old new : Site) (file : List ℕ) (run : Progress) (operations : List ClientOp) (changes : List Change) → IsSite shape old file run → TxFits shape old operations → refusal_of (rows_of shape run) operations ≡ None → changes ≡ tx_changes shape operations run →
+pub site_committed : (shape : Shape) (old new : Site) (seen : ℕ → List ℕ) (run : Progress) (operations : List ClientOp) (changes : List Change) → IsSite shape old seen run → TxFits shape old operations → refusal_of (rows_of shape run) operations ≡ None → changes ≡ tx_changes shape operations run →
     new.id ≡ old.id → new.mapped ≡ old.mapped → new.clock ≡ record { opened = old.clock.opened; previous = old.clock.previous; drawn = old.clock.drawn + 1 } →
     ((t k : ℕ) → rows_in new.tables t k ≡ row_left (of_key t k changes) (rows_in old.tables t k)) → tables_in new.tables ≡ tables_in old.tables →
     ((b : ℕ) (s : Buffered) → HoldsNodes old.nodes b s → HoldsNodes new.nodes b (with_changes changes s)) →
     ((b : ℕ) (s : Buffered) (ss : List Sent) (ds : List ℕ) (fa : ℕ → ℕ) → HoldsNodes old.nodes b s → HoldsSent old.outbox ss ds fa → HoldsSent new.outbox (ss ++ map (sent_by (owner_in s.members)) (parts_sent b s.opened (s.changes s.opened) changes)) ds fa) →
     nodes_in new.outbox ≡ nodes_in old.outbox →
-    new.events ≡ old.events → new.log ≡ old.log → new.lost ≡ old.lost → new.made ≡ old.made + length changes → IsSite shape new file (committed shape operations run)
-site_committed shape old new file run operations changes held fits free is id mapped clock rows count nodes outbox senders events log lost made =
+    new.events ≡ old.events → new.injector ≡ old.injector → new.lost ≡ old.lost → new.made ≡ old.made + length changes → IsSite shape new seen (committed shape operations run)
+site_committed shape old new seen run operations changes held fits free is id mapped clock rows count nodes outbox senders events log lost made =
     let made_changes = tx_changes shape operations run in
     let entry = Client run.opened (run.drawn + 1) made_changes in
     let bodies : written_bodies shape (committed shape operations run) ≡ written_bodies shape run =
@@ -126,13 +126,10 @@ site_committed shape old new file run operations changes held fits free is id ma
           (outbox shape.buckets (buffered_by shape run) run.sent run.delivered (failed_in run) held.nodes held.outbox);
       senders = senders ∙ held.senders;
       events = subst (λ (b : EventBuffer). StandsFor b (fed_by shape run)) (sym events) held.events;
-      written = ap (λ (l : LogEnd). l.written) log ∙ held.written;
-      last = ap (λ (l : LogEnd). l.last.0) log ∙ held.last ∙ ap last_epoch (sym bodies);
-      log = subst (λ (bs : List EpochBody). IsLogOf bs file) (sym bodies) held.log;
-      length_is = ap (λ (l : LogEnd). l.length) log ∙ held.length_is;
+      log = subst (λ (its : Injector). inject.StandsFor its (setup_of shape its) (written_bodies shape (committed shape operations run)) seen) (sym log)
+          (subst (λ (bs : List EpochBody). inject.StandsFor old.injector (setup_of shape old.injector) bs seen) (sym bodies) held.log);
       made = made ∙ plus_same old.made _ (length changes) held.made ∙ counted made_changes (ap length is);
       few = (let all : length changes ≡ length operations = ap length is ∙ as_many in let room = fits.room in let m = made in omega arith);
-      size = subst (λ (bs : List EpochBody). length file ≤ 115 + most_of_change * changes_in_bodies bs) (sym bodies) held.size;
     }
   where
     as_many : length (tx_changes shape operations run) ≡ length operations
@@ -145,8 +142,8 @@ site_committed shape old new file run operations changes held fits free is id ma
     counted cs same = omega (arith, sum_by-cons (λ (entry : Entry). length (changes_of shape.site entry)) (Client run.opened (run.drawn + 1) cs) run.journal)
 
 -- there is room to send the changes of a transaction
-pub can_send : (shape : Shape) (site : Site) (file : List ℕ) (run : Progress) (operations : List ClientOp) (changes : List Change) → IsSite shape site file run → run.lost ≡ None → TxFits shape site operations → changes ≡ tx_changes shape operations run → CanSend site.nodes changes
-can_send shape site file run operations changes held none fits is =
+pub can_send : (shape : Shape) (site : Site) (seen : ℕ → List ℕ) (run : Progress) (operations : List ClientOp) (changes : List Change) → IsSite shape site seen run → run.lost ≡ None → TxFits shape site operations → changes ≡ tx_changes shape operations run → CanSend site.nodes changes
+can_send shape site seen run operations changes held none fits is =
     let all : length changes ≡ length operations = ap length is ∙ as_many_changes (rows_of shape run) (server_of shape.site) (run.drawn + 1) operations in
     let few = epoch_length shape.site run.opened run.journal in
     let room = fits.room in
@@ -154,8 +151,8 @@ can_send shape site file run operations changes held none fits is =
     (shape.buckets, buffered_by shape run, held.nodes, held.sound.some, held.covered none, omega arith)
 
 -- and to store them
-pub can_store : (shape : Shape) (site : Site) (file : List ℕ) (run : Progress) (operations : List ClientOp) (changes : List Change) → IsSite shape site file run → TxFits shape site operations → refusal_of (rows_of shape run) operations ≡ None → changes ≡ tx_changes shape operations run → AllByRecursion (CanBeStored (tables_in site.tables)) changes
-can_store shape site file run operations changes held fits free is =
+pub can_store : (shape : Shape) (site : Site) (seen : ℕ → List ℕ) (run : Progress) (operations : List ClientOp) (changes : List Change) → IsSite shape site seen run → TxFits shape site operations → refusal_of (rows_of shape run) operations ≡ None → changes ≡ tx_changes shape operations run → AllByRecursion (CanBeStored (tables_in site.tables)) changes
+can_store shape site seen run operations changes held fits free is =
     storable shape.tables (tables_in site.tables) changes held.count
     (subst (AllByRecursion (FitsTables shape.tables)) (sym is) (changes_fit shape (server_of shape.site) (run.drawn + 1) operations run.journal held.fits fits.fit free))
 
@@ -175,26 +172,26 @@ fault_outcome (KeyThere number) = refl
 fault_outcome (NoKey number) = refl
 
 -- a site that refused a transaction
-pub site_refused : (shape : Shape) (site : Site) (file : List ℕ) (run : Progress) (operations : List ClientOp) (fault : TxFault) → IsSite shape site file run → option_map fault_of (refusal_of (rows_in site.tables) operations) ≡ Some fault →
-    IsSite shape site file (tx_step shape operations run).run × (outcome_of_fault fault ≡ (tx_step shape operations run).outcome)
-site_refused shape site file run operations fault held named = go (refusal_of (rows_of shape run) operations) refl
+pub site_refused : (shape : Shape) (site : Site) (seen : ℕ → List ℕ) (run : Progress) (operations : List ClientOp) (fault : TxFault) → IsSite shape site seen run → option_map fault_of (refusal_of (rows_in site.tables) operations) ≡ Some fault →
+    IsSite shape site seen (tx_step shape operations run).run × (outcome_of_fault fault ≡ (tx_step shape operations run).outcome)
+site_refused shape site seen run operations fault held named = go (refusal_of (rows_of shape run) operations) refl
   where
     same : refusal_of (rows_in site.tables) operations ≡ refusal_of (rows_of shape run) operations
     same = refusal_alike (rows_in site.tables) (rows_of shape run) operations held.rows
 
-    go : (r : Option Refusal) → refusal_of (rows_of shape run) operations ≡ r → IsSite shape site file (tx_step shape operations run).run × (outcome_of_fault fault ≡ (tx_step shape operations run).outcome)
+    go : (r : Option Refusal) → refusal_of (rows_of shape run) operations ≡ r → IsSite shape site seen (tx_step shape operations run).run × (outcome_of_fault fault ≡ (tx_step shape operations run).outcome)
     go None q = absurd (let g : None ≡ Some fault = sym (ap (option_map fault_of) (same ∙ q)) ∙ named in cc)
     go (Some refusal) q =
         let step = tx_refused shape operations run refusal q in
         let is : fault_of refusal ≡ fault = (let g : Some (fault_of refusal) ≡ Some fault = sym (ap (option_map fault_of) (same ∙ q)) ∙ named in cc) in
-        (subst (λ (s : Stepped). IsSite shape site file s.run) (sym step) held, sym (ap outcome_of_fault is) ∙ fault_outcome refusal ∙ sym (ap (λ (s : Stepped). s.outcome) step))
+        (subst (λ (s : Stepped). IsSite shape site seen s.run) (sym step) held, sym (ap outcome_of_fault is) ∙ fault_outcome refusal ∙ sym (ap (λ (s : Stepped). s.outcome) step))
 
 -- what prepare accepts is what the run accepts
-pub accepted_alike : (shape : Shape) (site : Site) (file : List ℕ) (run : Progress) (operations : List ClientOp) → IsSite shape site file run → refusal_of (rows_in site.tables) operations ≡ None → refusal_of (rows_of shape run) operations ≡ None
-accepted_alike shape site file run operations held free = sym (refusal_alike (rows_in site.tables) (rows_of shape run) operations held.rows) ∙ free
+pub accepted_alike : (shape : Shape) (site : Site) (seen : ℕ → List ℕ) (run : Progress) (operations : List ClientOp) → IsSite shape site seen run → refusal_of (rows_in site.tables) operations ≡ None → refusal_of (rows_of shape run) operations ≡ None
+accepted_alike shape site seen run operations held free = sym (refusal_alike (rows_in site.tables) (rows_of shape run) operations held.rows) ∙ free
 
-pub changes_are : (shape : Shape) (site : Site) (file : List ℕ) (run : Progress) (operations : List ClientOp) (changes : List Change) (author transid : ℕ) → IsSite shape site file run → changes ≡ changes_made (rows_in site.tables) author transid operations → author ≡ server_of site.id → transid ≡ site.clock.drawn + 1 → changes ≡ tx_changes shape operations run
-changes_are shape site file run operations changes author transid held is own number =
+pub changes_are : (shape : Shape) (site : Site) (seen : ℕ → List ℕ) (run : Progress) (operations : List ClientOp) (changes : List Change) (author transid : ℕ) → IsSite shape site seen run → changes ≡ changes_made (rows_in site.tables) author transid operations → author ≡ server_of site.id → transid ≡ site.clock.drawn + 1 → changes ≡ tx_changes shape operations run
+changes_are shape site seen run operations changes author transid held is own number =
     let a : author ≡ server_of shape.site = own ∙ ap server_of (held.id ∙ sym held.declared.primary) in
     let t : transid ≡ run.drawn + 1 = number ∙ ap (λ (h : Hand). h.drawn + 1) held.clock in
     is
@@ -207,14 +204,14 @@ if_ok_more (Ok x) P Q p f = f x p
 if_ok_more (Err e) P Q p f = tt
 
 -- a site that accepted one, by its step
-pub site_accepted : (shape : Shape) (site : Site) (file : List ℕ) (run : Progress) (operations : List ClientOp) (outcome : Outcome) → refusal_of (rows_of shape run) operations ≡ None → IsSite shape site file (committed shape operations run) × (outcome ≡ commit_outcome (committed shape operations run)) → IsSite shape site file (tx_step shape operations run).run × (outcome ≡ (tx_step shape operations run).outcome)
-site_accepted shape site file run operations outcome free held =
+pub site_accepted : (shape : Shape) (site : Site) (seen : ℕ → List ℕ) (run : Progress) (operations : List ClientOp) (outcome : Outcome) → refusal_of (rows_of shape run) operations ≡ None → IsSite shape site seen (committed shape operations run) × (outcome ≡ commit_outcome (committed shape operations run)) → IsSite shape site seen (tx_step shape operations run).run × (outcome ≡ (tx_step shape operations run).outcome)
+site_accepted shape site seen run operations outcome free held =
     let step = tx_accepted shape operations run free in
-    (subst (λ (s : Stepped). IsSite shape site file s.run) (sym step) held.0, held.1 ∙ sym (ap (λ (s : Stepped). s.outcome) step))
+    (subst (λ (s : Stepped). IsSite shape site seen s.run) (sym step) held.0, held.1 ∙ sym (ap (λ (s : Stepped). s.outcome) step))
 
 -- the answer to an accepted transaction
-pub outcome_is : (shape : Shape) (new : Site) (file : List ℕ) (run : Progress) (operations : List ClientOp) (transid sent : ℕ) (epoch : Epoch) → IsSite shape new file (committed shape operations run) → transid ≡ new.clock.drawn → epoch.0 ≡ new.clock.opened → sent ≡ count_in new.outbox → outcomes.Committed transid epoch sent ≡ commit_outcome (committed shape operations run)
-outcome_is shape new file run operations transid sent epoch held number opens count =
+pub outcome_is : (shape : Shape) (new : Site) (seen : ℕ → List ℕ) (run : Progress) (operations : List ClientOp) (transid sent : ℕ) (epoch : Epoch) → IsSite shape new seen (committed shape operations run) → transid ≡ new.clock.drawn → epoch.0 ≡ new.clock.opened → sent ≡ count_in new.outbox → outcomes.Committed transid epoch sent ≡ commit_outcome (committed shape operations run)
+outcome_is shape new seen run operations transid sent epoch held number opens count =
     let t : transid ≡ run.drawn + 1 = number ∙ ap (λ (h : Hand). h.drawn) held.clock in
     let e : epoch ≡ record { 0 = run.opened } = ap (λ (n : ℕ). record { 0 = n }) (opens ∙ ap (λ (h : Hand). h.opened) held.clock) in
     let s : sent ≡ length (committed shape operations run).sent = count ∙ ap length held.outbox.sent_is in

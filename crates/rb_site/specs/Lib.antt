@@ -1,10 +1,8 @@
-pub mod Body
-pub mod Fault
 pub mod Nodes
 pub mod Outbox
 pub mod Outcome
 pub mod Rows
 pub mod Site
 pub mod Tally
-pub mod Writer
 pub mod Inject
+pub mod Stepped

@@ -5,17 +5,18 @@ use Rattle.std.specs.Option.{option_map, option_and_then}
 use Rattle.rb_base.specs.declared.site.SiteId.TheVariants.{A}
 use Rattle.rb_base.specs.declared.schema.Schema.{Schema}
 use Rattle.rb_base.specs.declared.schema.Mapped.{Mapped}
-use Rattle.rb_base.specs.declared.body.EpochBody.{EpochBody}
 use Rattle.rb_base.specs.declared.script.ClientOp.{ClientOp}
 use Rattle.rb_journal_defs.specs.Journal.{Journal, changes_of, closed_epochs, previous_closed, row_at}
 use Rattle.rb_journal_defs.specs.Body.{Shape, changes_in, mapped_tables}
 use Rattle.rb_text_defs.specs.Script.{column_bytes, most_changes, most_row_bytes}
 use Rattle.rb_store.specs.Tables.{rows_in, tables_in}
-use Rattle.rb_evbuf.specs.Buffer.{StandsFor}
-use Rattle.rb_play_defs.specs.Step.{Progress, failed_in, fed_by, last_epoch, written_bodies, acknowledged_epoch}
+use Rattle.rb_evbuf.specs.Buffer as buffer
+use Rattle.rb_inject.specs.Injector as injector
+use Rattle.rb_inject.specs.Injector.{LogSetup}
+use Rattle.rb_inject.specs.declared.injector.Injector.{Injector}
+use Rattle.rb_play_defs.specs.Step.{Progress, failed_in, fed_by, written_bodies, acknowledged_epoch}
 use Rattle.rb_play_defs.specs.Sound.{IsSound}
 use Rattle.rb_play_defs.specs.Fitting.{JournalFits, OperationFits}
-use Rattle.rb_play_defs.specs.Part.{IsLogOf}
 use Rattle.rb_play_defs.specs.declared.event.SiteEvent.{SiteEvent}
 use Rattle.rb_play_defs.specs.declared.event.SiteEvent.TheVariants as events
 use Rattle.rb_message_defs.specs.Nodes.{owner_in, unacknowledged}
@@ -57,14 +58,6 @@ buffered_by shape run = record {
 abbrev pub loss_of : Option Loss → Option (ℕ × ℕ)
 loss_of lost = option_map (λ loss. (loss.group, loss.epoch.0)) lost
 
--- how many bytes an epoch takes for each of its changes at most
-abbrev pub most_of_change : ℕ
-most_of_change = 2382
-
--- how many changes bodies have
-abbrev pub changes_in_bodies : List EpochBody → ℕ
-changes_in_bodies bodies = sum_by (λ body. length body.changes) bodies
-
 -- the declared tables, all of them small
 pub record AreDeclared (shape : Shape) : Type 0 where
   pub primary : shape.site ≡ A
@@ -76,8 +69,20 @@ pub record AreDeclared (shape : Shape) : Type 0 where
 abbrev pub shape_of : List Schema → (groups replicas : ℕ) → Shape
 shape_of schemas groups replicas = record { site = A; buckets = groups * replicas; tables = mapped_tables schemas }
 
--- a site over its log file, whose nodes were told of this acknowledged epoch, stands for a point of a run
-pub record IsSiteAt (acknowledged : ℕ) (shape : Shape) (site : Site) (file : List ℕ) (run : Progress) : Type 0 where
+-- the length of its binlog files, in bytes, from which each is rotated
+abbrev pub limit_of : Site → ℕ
+limit_of site = injector.limit_of site.injector
+
+-- what an injector's log is written for
+abbrev pub setup_of : Shape → Injector → LogSetup
+setup_of shape its = record { site = shape.site; limit = injector.limit_of its; tables = shape.tables }
+
+-- what a site's log is written for
+abbrev pub log_setup : Shape → Site → LogSetup
+log_setup shape site = setup_of shape site.injector
+
+-- a site over its device, whose nodes were told of this acknowledged epoch, stands for a point of a run
+pub record IsSiteAt (acknowledged : ℕ) (shape : Shape) (site : Site) (seen : ℕ → List ℕ) (run : Progress) : Type 0 where
   pub declared : AreDeclared shape
   pub sound : IsSound shape run
   pub fits : JournalFits shape run.journal
@@ -91,18 +96,14 @@ pub record IsSiteAt (acknowledged : ℕ) (shape : Shape) (site : Site) (file : L
   pub lost : loss_of site.lost ≡ run.lost
   pub outbox : HoldsSent site.outbox run.sent run.delivered (failed_in run)
   pub senders : nodes_in site.outbox ≡ shape.buckets
-  pub events : StandsFor site.events (fed_by shape run)
-  pub written : site.log.written ≡ run.written
-  pub last : site.log.last.0 ≡ last_epoch (written_bodies shape run)
-  pub log : IsLogOf (written_bodies shape run) file
-  pub length_is : site.log.length ≡ length file
+  pub events : buffer.StandsFor site.events (fed_by shape run)
+  pub log : injector.StandsFor site.injector (log_setup shape site) (written_bodies shape run) seen
   pub made : site.made ≡ changes_made shape run.journal
   pub few : site.made ≤ most_changes
-  pub size : length file ≤ 115 + most_of_change * changes_in_bodies (written_bodies shape run)
 
 -- its nodes were told of the last written one, as they are but for an injector's turn
-abbrev pub IsSite : Shape → Site → (file : List ℕ) → Progress → Type 0
-IsSite shape site file run = IsSiteAt (acknowledged_epoch shape run) shape site file run
+abbrev pub IsSite : Shape → Site → (seen : ℕ → List ℕ) → Progress → Type 0
+IsSite shape site seen run = IsSiteAt (acknowledged_epoch shape run) shape site seen run
 
 -- how many changes a site's clients have made
 abbrev pub made_by : Site → ℕ
@@ -124,9 +125,9 @@ groups_of site = length site.nodes.groups.items
 abbrev pub replicas_of : Site → ℕ
 replicas_of site = site.nodes.replicas
 
--- a site with as many groups, of as many nodes each
-abbrev pub SameNodes : (old new : Site) → Type 0
-SameNodes old new = (groups_of new ≡ groups_of old) × (replicas_of new ≡ replicas_of old)
+-- a site with as many groups, of as many nodes each, and with the same limit
+abbrev pub SameSetup : (old new : Site) → Type 0
+SameSetup old new = (groups_of new ≡ groups_of old) × (replicas_of new ≡ replicas_of old) × (limit_of new ≡ limit_of old)
 
 -- its open epoch
 abbrev pub opened_of : Site → ℕ
@@ -142,6 +143,19 @@ needs_all_groups events.Inject = false
 needs_all_groups (events.Fail node) = true
 needs_all_groups (events.Restart node) = true
 needs_all_groups events.Resend = true
+needs_all_groups events.Injector = false
+
+-- an event that touches the log device
+abbrev pub uses_device : SiteEvent → Bool
+uses_device (events.Tx operations) = false
+uses_device (events.Close gci) = false
+uses_device (events.Deliver place) = false
+uses_device events.DeliverAll = false
+uses_device events.Inject = true
+uses_device (events.Fail node) = false
+uses_device (events.Restart node) = false
+uses_device events.Resend = false
+uses_device events.Injector = true
 
 -- what a client's transaction needs: its operations fit the tables, and there is room for its changes and its number
 pub record TxFits (shape : Shape) (site : Site) (operations : List ClientOp) : Type 0 where
@@ -159,10 +173,11 @@ EventFits shape site events.Inject = Unit {0}
 EventFits shape site (events.Fail node) = node < shape.buckets
 EventFits shape site (events.Restart node) = (node < shape.buckets) × (opened_of site + 1 < 2 ^ 64)
 EventFits shape site events.Resend = Unit {0}
+EventFits shape site events.Injector = opened_of site < 2 ^ 64
 
 -- a site that can take an event
-abbrev pub CanTake : Site → (file : List ℕ) → SiteEvent → Type 0
-CanTake site file event = (shape : Shape) × (run : Progress) × IsSite shape site file run × EventFits shape site event
+abbrev pub CanTake : Site → (seen : ℕ → List ℕ) → SiteEvent → Type 0
+CanTake site seen event = (shape : Shape) × (run : Progress) × IsSite shape site seen run × EventFits shape site event
 
 -- the buffer of a node, where it is up
 abbrev pub buffer_at : Site → (node : ℕ) → Option BucketBuffer

@@ -8,5 +8,5 @@ ghost use Rattle.rb_site.specs.declared.site.Site.{Site};
 /// that owns a bucket is up, and its buffer has every message of the bucket that is not acknowledged: of each closed epoch above
 /// the acknowledged one the changes and the end, and of the open epoch the changes. So it can send each of them again.
 pub fn owners_hold_what_is_not_acknowledged()
-    ensures { (shape : Shape) (site : Site) (file : List ℕ) (run : Progress) → IsSite shape site file run → run.lost ≡ None → (bucket : ℕ) → bucket < shape.buckets → OwnerHolds shape site run bucket }
+    ensures { (shape : Shape) (site : Site) (seen : ℕ → List ℕ) (run : Progress) → IsSite shape site seen run → run.lost ≡ None → (bucket : ℕ) → bucket < shape.buckets → OwnerHolds shape site run bucket }
 {}

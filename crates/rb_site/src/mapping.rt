@@ -16,6 +16,17 @@ pub(crate) fn map_tables(alloc: Global, schemas: &[Schema]) -> Result<MappedTabl
     Ok(tables)
 }
 
+/// An equal list of tables.
+pub(crate) fn copy_tables(alloc: Global, tables: &[Mapped]) -> Result<MappedTables, NoMemory>
+    ensures { IfOk result (λ copy. copy ≡ tables.now) }
+{
+    let mut copy = MappedTables::new(alloc);
+    for table in tables {
+        copy.push(table.copy(alloc)?)?;
+    }
+    Ok(copy)
+}
+
 // A table of this number: its schema is `db`, and its key stands before its columns.
 fn map_table(alloc: Global, id: u16, schema: &Schema) -> Result<Mapped, NoMemory>
     ensures { IfOk result (λ table. table ≡ mapped_table (id, schema.now)) }

@@ -135,6 +135,13 @@ impl Nodes {
         }
     }
 
+    /// The number of all buckets.
+    pub(crate) fn buckets(&self) -> u32
+        ensures { result ≡ self.now.buckets }
+    {
+        self.buckets
+    }
+
     /// The group of this number, from 0.
     pub(crate) fn group(&self, number: u32) -> &Group
         requires number { number < length self.now.groups.items }

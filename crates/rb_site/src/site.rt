@@ -1,45 +1,43 @@
 ghost use Rattle.std.specs.Option.{option_map};
-ghost use Rattle.std.specs.Prelude.{◌≡◌, ◌≢◌, ◌+◌, ◌*◌, ◌<◌, ◌^◌, ℕ, [], length, List, None, if◌then◌else◌, IfOk, IfErr, OnOk};
+ghost use Rattle.std.specs.Prelude.{◌≡◌, ◌≢◌, ◌+◌, ◌*◌, ◌<◌, ◌^◌, ℕ, [], length, List, Err, None, false, if◌then◌else◌, IfOk, OnOk, OnErr};
 ghost use Rattle.rb_site.specs.Outcome.{outcome_of_fault};
+ghost use Rattle.rb_base.specs.declared.site.SiteId.TheVariants.{A};
 ghost use Rattle.rb_base.specs.declared.script.ClientOp.{ClientOp};
 ghost use Rattle.rb_evbuf.specs.Buffer.{StandsFor};
 ghost use Rattle.rb_store.specs.Tables.{rows_in};
+ghost use Rattle.rb_log_defs.specs.File.{binlog_files, index_rows};
+ghost use Rattle.rb_disk.specs.Disk.{IsLowestFile};
+ghost use Rattle.rb_device_defs.specs.Image.{IsLogImage};
 ghost use Rattle.rb_journal_defs.specs.Journal.{row_at};
 ghost use Rattle.rb_journal_defs.specs.Transaction.{refusal_of};
 ghost use Rattle.rb_site.specs.Nodes.{GroupHolds};
-ghost use Rattle.rb_journal_defs.specs.Body.{Shape, has_something_to_log};
-ghost use Rattle.rb_play_defs.specs.Step.{Progress, fed_by, last_epoch, beginning, rows_of, tx_changes, committed, commit_outcome, tx_step, close_step, deliver_step, deliver_all_step, injected, inject_step, site_step, written_bodies, fail_step, restart_step, resend_step, answer_outcome as outcome_of_answer};
+ghost use Rattle.rb_journal_defs.specs.Body.{Shape};
+ghost use Rattle.rb_play_defs.specs.Part.{HoldsPart};
+ghost use Rattle.rb_play_defs.specs.Step.{Progress, fed_by, beginning, rows_of, tx_changes, committed, commit_outcome, tx_step, close_step, deliver_step, deliver_all_step, injected, inject_step, injector_step, takeable, worth_logging, site_step, written_bodies, fail_step, restart_step, resend_step, answer_outcome as outcome_of_answer};
+ghost use Rattle.rb_inject.specs.Injector as inject;
+ghost use Rattle.rb_inject.specs.Injector.{IsLimit};
+ghost use Rattle.rb_inject.specs.Fault.{HasInjectCause, IsNotEmpty, IsTooLarge};
 
-use crate::body::body_of;
-use crate::fault::SiteFault;
-use crate::mapping::map_tables;
+use crate::mapping::copy_tables;
 use crate::nodes::Nodes;
 use crate::outbox::Outbox;
 use crate::rows::store;
 use crate::sending::{send_all, send_parts};
+use crate::stepped::{Stepped, StoppedSite, step_of};
 use crate::tally::Tally;
-use crate::writer::{LOG_FILE, begin_file, write_body};
+use crate::turn::{Turn, take_turn};
 use rb_base::{
-    Changes, ClientOps, Epoch, EpochBody, MappedTables, NoMemory, Outcome, Schema, SiteId,
+    Changes, ClientOps, Epoch, MappedTables, NoMemory, Outcome, Schema, SiteId, SiteSetup,
 };
 use rb_commit::{Clock, TxFault, prepare};
-use rb_disk::LogDisk;
+use rb_disk::{DiskLogFault, LogDisk, lowest_file};
 use rb_evbuf::{EventBuffer, Missing, Received};
 use rb_group::{FailOutcome, Group, GroupFault};
+use rb_index::EpochIndex;
+use rb_inject::{InjectFault, Injector};
 use rb_play_defs::SiteEvent;
 use rb_store::Tables;
 use std::alloc::Global;
-
-/// How far a site's log is written.
-#[derive(Clone, Copy, Debug)]
-pub(crate) struct LogEnd {
-    /// How many bodies are written.
-    pub(crate) written: u64,
-    /// The epoch of the last one, or 0.
-    pub(crate) last: Epoch,
-    /// The bytes of the file.
-    pub(crate) length: u32,
-}
 
 /// A group that was lost.
 #[derive(Clone, Copy, Debug)]
@@ -61,7 +59,7 @@ pub struct Site {
     nodes: Nodes,
     outbox: Outbox,
     events: EventBuffer,
-    log: LogEnd,
+    injector: Injector,
     // How many changes its clients have made.
     made: u64,
     // The first group that was lost.
@@ -69,89 +67,66 @@ pub struct Site {
 }
 
 impl Site {
-    ghost use Rattle.rb_site.specs.Site.{IsSite, IsSiteAt, AreDeclared, EventFits, TxFits, CanTake, opened_of, sent_by_site, shape_of, groups_of, replicas_of, SameNodes, buffered_by, needs_all_groups};
-    ghost use Rattle.rb_site.specs.Inject.{HasTaken};
-    ghost use Rattle.rb_site.specs.Fault.{HasDiskCause, LeavesLog, LeavesPart};
+    ghost use Rattle.rb_site.specs.Site.{IsSite, AreDeclared, EventFits, TxFits, CanTake, opened_of, sent_by_site, shape_of, groups_of, replicas_of, limit_of, setup_of, SameSetup, buffered_by, needs_all_groups, uses_device};
+    ghost use Rattle.rb_site.specs.Inject.{IsInjectorAt};
+    ghost use Rattle.rb_site.specs.Stepped.{IsStoppedSite, HasSetup, HasSameSetup, rest_of, site_of, IfOn, IfStopped, IsCut, HasStepCause};
 
-    /// Site A with these tables and so many node groups of so many nodes each, over an empty log file, which gets its start.
+    /// Site A with these tables, so many node groups of so many nodes each, and binlog files of this limit, on an empty device: the
+    /// injector gets a log without an epoch. `NotEmpty` names the lowest file that is not empty, and leaves the device as it was.
     pub fn create<D: LogDisk>(
         alloc: Global,
         schemas: &[Schema],
-        groups: u32,
-        replicas: u32,
+        setup: SiteSetup,
         disk: &mut D,
-    ) -> Result<Site, SiteFault>
-        requires declared { AreDeclared (shape_of schemas.now groups replicas) }
-        requires some { 0 < groups * replicas }
-        requires few { groups * replicas < 2 ^ 32 }
+    ) -> Result<Site, InjectFault>
+        requires declared { AreDeclared (shape_of schemas.now setup.groups setup.replicas) }
+        requires some { 0 < setup.groups * setup.replicas }
+        requires few { setup.groups * setup.replicas < 2 ^ 32 }
         requires tables { length schemas.now < 2 ^ 16 }
-        requires empty { D.seen disk.old 1 ≡ [] }
-        ensures begun { IfOk result (λ site. IsSite (shape_of schemas.now groups replicas) site (D.seen disk.new 1) (beginning groups replicas)) }
-        ensures nodes { IfOk result (λ site. (groups_of site ≡ groups) × (replicas_of site ≡ replicas)) }
-        ensures stopped { IfErr result (LeavesPart [] (D.seen disk.new 1)) }
-        ensures others { (other : ℕ) → other ≢ 1 → D.seen disk.new other ≡ D.seen disk.old other }
-        ensures cause { HasDiskCause (D.fault_count disk.old) (D.fault_count disk.new) result }
+        requires limit { IsLimit setup.limit }
+        ensures begun { IfOk result (λ site. IsSite (shape_of schemas.now setup.groups setup.replicas) site (D.seen disk.new) (beginning setup.groups setup.replicas)) }
+        ensures nodes { IfOk result (λ site. (groups_of site ≡ setup.groups) × (replicas_of site ≡ setup.replicas) × (limit_of site ≡ setup.limit)) }
+        ensures not_empty { (file size : ℕ) → result ≡ Err (InjectFault.NotEmpty file size) → IsLowestFile file size (D.seen disk.old) }
+        ensures refused { (file size : ℕ) → IsLowestFile file size (D.seen disk.old) → IsNotEmpty result }
+        ensures untouched { IsNotEmpty result → (file : ℕ) → D.seen disk.new file ≡ D.seen disk.old file }
+        ensures no_size { IsTooLarge result → ⊥ }
+        ensures stopped { OnErr result (((file : ℕ) → D.seen disk.old file ≡ []) → IsLogImage A setup.limit [] (D.seen disk.new)) }
+        ensures cause { HasInjectCause (D.fault_count disk.old) (D.fault_count disk.new) result }
     {
-        let clock = Clock::new(alloc);
-        let rows = Tables::new(alloc, schemas)?;
-        let mapped = map_tables(alloc, schemas)?;
-        let nodes = Nodes::new(alloc, groups, replicas, clock.open())?;
-        let outbox = Outbox::new(alloc, groups * replicas)?;
-        let events = EventBuffer::new(alloc, groups * replicas, Epoch(0))?;
-        let length = begin_file(alloc, disk)?;
-        Ok(Site {
-            alloc,
-            id: SiteId::A,
-            tables: rows,
-            mapped,
-            clock,
-            nodes,
-            outbox,
-            events,
-            log: LogEnd {
-                written: 0,
-                last: Epoch(0),
-                length,
-            },
-            made: 0,
-            lost: None,
-        })
+        if let Some((file, length)) = lowest_file(disk) {
+            return Err(InjectFault::NotEmpty { file, length });
+        }
+        let rest = StoppedSite::begin(alloc, schemas, setup)?;
+        let events = EventBuffer::new(alloc, setup.groups * setup.replicas, Epoch(0))?;
+        let tables = copy_tables(alloc, rest.mapped.as_slice())?;
+        let injector = Injector::create(alloc, rest.id, rest.limit, tables, disk)?;
+        Ok(Site::of(rest, events, injector))
     }
 
-    /// One event, and its answer.
-    pub fn step<D: LogDisk>(
-        self,
-        event: &SiteEvent,
-        disk: &mut D,
-    ) -> Result<(Site, Outcome), SiteFault>
-        requires fits { CanTake self (D.seen disk.old 1) event.now }
-        ensures stepped { IfOk result (λ pair. (shape : Shape) (run : Progress) → IsSite shape self (D.seen disk.old 1) run → EventFits shape self event.now →
-            IsSite shape pair.0 (D.seen disk.new 1) (site_step shape run event.now).run × (pair.1 ≡ (site_step shape run event.now).outcome)) }
-        ensures nodes { IfOk result (λ pair. (groups_of pair.0 ≡ groups_of self) × (replicas_of pair.0 ≡ replicas_of self)) }
-        ensures stopped { IfErr result (λ fault. (shape : Shape) (run : Progress) → IsSite shape self (D.seen disk.old 1) run →
-            LeavesLog run.written (written_bodies shape (site_step shape run event.now).run) (D.seen disk.new 1) fault) }
-        ensures others { (other : ℕ) → other ≢ 1 → D.seen disk.new other ≡ D.seen disk.old other }
-        ensures cause { HasDiskCause (D.fault_count disk.old) (D.fault_count disk.new) result }
+    /// One event, and its answer. The device is touched at the injector's events alone, and at its fault they leave the rest of the
+    /// site, which is as it was before the event.
+    pub fn step<D: LogDisk>(self, event: &SiteEvent, disk: &mut D) -> Stepped
+        requires fits { CanTake self (D.seen disk.old) event.now }
+        ensures stepped { IfOn result (λ site outcome. (shape : Shape) (run : Progress) → IsSite shape self (D.seen disk.old) run → EventFits shape self event.now →
+            IsSite shape site (D.seen disk.new) (site_step shape run event.now).run × (outcome ≡ (site_step shape run event.now).outcome)) }
+        ensures nodes { IfOn result (λ site outcome. SameSetup self site) }
+        ensures stays { IfStopped result (λ stopped. (shape : Shape) (run : Progress) → IsSite shape self (D.seen disk.old) run → IsStoppedSite shape stopped run) }
+        ensures kept { IfStopped result (λ stopped. HasSetup (groups_of self) (replicas_of self) (limit_of self) stopped) }
+        ensures part { IsCut result → (shape : Shape) (run : Progress) → IsSite shape self (D.seen disk.old) run →
+            HoldsPart (limit_of self) run.written (written_bodies shape (site_step shape run event.now).run) (D.seen disk.new) }
+        ensures cause { HasStepCause (D.fault_count disk.old) (D.fault_count disk.new) result }
     {
-        if let Some(Loss { group, epoch }) = self.loss_against(event) {
-            return Ok((self, Outcome::SiteLost { group, epoch }));
-        }
         match event {
-            SiteEvent::Tx(operations) => Ok(self.transact(operations)?),
-            SiteEvent::Close(gci) => Ok(self.close(*gci)?),
-            SiteEvent::Deliver(place) => Ok(self.deliver(*place)?),
-            SiteEvent::DeliverAll => Ok(self.deliver_all()?),
             SiteEvent::Inject => self.inject(disk),
-            SiteEvent::Fail(node) => Ok(self.fail(*node)?),
-            SiteEvent::Restart(node) => Ok(self.restart(*node)?),
-            SiteEvent::Resend => Ok(self.resend()?),
+            SiteEvent::Injector => self.begin_again(disk),
+            _ => step_of(self.step_inside(event)),
         }
     }
 
     /// The node group of this number. The numbers begin at 0. It takes no memory.
     pub fn group(&self, number: u32) -> &Group
         requires number { number < groups_of self.now }
-        ensures { (shape : Shape) (file : List ℕ) (run : Progress) → IsSite shape self.now file run →
+        ensures { (shape : Shape) (seen : ℕ → List ℕ) (run : Progress) → IsSite shape self.now seen run →
             GroupHolds shape.buckets (buffered_by shape run) number result.now }
     {
         self.nodes.group(number)
@@ -159,21 +134,21 @@ impl Site {
 
     /// The injector's event buffer. It takes no memory.
     pub fn event_buffer(&self) -> &EventBuffer
-        ensures { (shape : Shape) (file : List ℕ) (run : Progress) → IsSite shape self.now file run → StandsFor result.now (fed_by shape run) }
+        ensures { (shape : Shape) (seen : ℕ → List ℕ) (run : Progress) → IsSite shape self.now seen run → StandsFor result.now (fed_by shape run) }
     {
         &self.events
     }
 
     /// How many messages its nodes have sent. It takes no memory.
     pub fn sent_len(&self) -> u64
-        ensures { (shape : Shape) (file : List ℕ) (run : Progress) → IsSite shape self.now file run → result ≡ length run.sent }
+        ensures { (shape : Shape) (seen : ℕ → List ℕ) (run : Progress) → IsSite shape self.now seen run → result ≡ length run.sent }
     {
         self.outbox.len()
     }
 
     /// Its tables. It takes no memory.
     pub fn tables(&self) -> &Tables
-        ensures { (shape : Shape) (file : List ℕ) (run : Progress) → IsSite shape self.now file run →
+        ensures { (shape : Shape) (seen : ℕ → List ℕ) (run : Progress) → IsSite shape self.now seen run →
             (table key : ℕ) → rows_in result.now table key ≡ row_at shape.site table key run.journal }
     {
         &self.tables
@@ -181,28 +156,28 @@ impl Site {
 
     /// Its open epoch. It takes no memory.
     pub fn open(&self) -> Epoch
-        ensures { (shape : Shape) (file : List ℕ) (run : Progress) → IsSite shape self.now file run → result.0 ≡ run.opened }
+        ensures { (shape : Shape) (seen : ℕ → List ℕ) (run : Progress) → IsSite shape self.now seen run → result.0 ≡ run.opened }
     {
         self.clock.open()
     }
 
-    /// How many epochs are written to its log. It takes no memory.
-    pub fn written(&self) -> u64
-        ensures { (shape : Shape) (file : List ℕ) (run : Progress) → IsSite shape self.now file run → result ≡ length (written_bodies shape run) }
+    /// The index of its log. It takes no memory.
+    pub fn index(&self) -> &EpochIndex
+        ensures { (shape : Shape) (seen : ℕ → List ℕ) (run : Progress) → IsSite shape self.now seen run → result.now ≡ index_rows shape.site (limit_of self.now) (written_bodies shape run) }
     {
-        self.log.written
+        self.injector.index()
     }
 
-    /// The last epoch in its log, or epoch 0 where there is none. It takes no memory.
-    pub fn last_written(&self) -> Epoch
-        ensures { (shape : Shape) (file : List ℕ) (run : Progress) → IsSite shape self.now file run → result.0 ≡ last_epoch (written_bodies shape run) }
+    /// The number of its last binlog file. It takes no memory.
+    pub fn last_file(&self) -> u32
+        ensures { (shape : Shape) (seen : ℕ → List ℕ) (run : Progress) → IsSite shape self.now seen run → result ≡ length (binlog_files shape.site (limit_of self.now) (written_bodies shape run)) }
     {
-        self.log.last
+        self.injector.last_file()
     }
 
     /// The first group that was lost, with the epoch that was needed then, or `None` where none was. It takes no memory.
     pub fn lost(&self) -> Option<(u32, Epoch)>
-        ensures { (shape : Shape) (file : List ℕ) (run : Progress) → IsSite shape self.now file run → option_map (λ loss. (loss.0, loss.1.0)) result ≡ run.lost }
+        ensures { (shape : Shape) (seen : ℕ → List ℕ) (run : Progress) → IsSite shape self.now seen run → option_map (λ loss. (loss.0, loss.1.0)) result ≡ run.lost }
     {
         match self.lost {
             Some(Loss { group, epoch }) => Some((group, epoch)),
@@ -215,17 +190,84 @@ impl Site {
         ensures { result ≡ (if needs_all_groups event.now then self.now.lost else None) }
     {
         match event {
-            SiteEvent::Deliver(_) | SiteEvent::DeliverAll | SiteEvent::Inject => None,
+            SiteEvent::Deliver(_)
+            | SiteEvent::DeliverAll
+            | SiteEvent::Inject
+            | SiteEvent::Injector => None,
             _ => self.lost,
+        }
+    }
+
+    // A site of these parts.
+    fn of(rest: StoppedSite, events: EventBuffer, injector: Injector) -> Site
+        ensures { result ≡ site_of rest events injector }
+    {
+        Site {
+            alloc: rest.alloc,
+            id: rest.id,
+            tables: rest.tables,
+            mapped: rest.mapped,
+            clock: rest.clock,
+            nodes: rest.nodes,
+            outbox: rest.outbox,
+            events,
+            injector,
+            made: rest.made,
+            lost: rest.lost,
+        }
+    }
+
+    // These parts of a site.
+    fn apart(self) -> (StoppedSite, EventBuffer, Injector)
+        ensures rest { result.0 ≡ rest_of self }
+        ensures events { result.1 ≡ self.events }
+        ensures injector { result.2 ≡ self.injector }
+    {
+        let rest = StoppedSite {
+            alloc: self.alloc,
+            id: self.id,
+            tables: self.tables,
+            mapped: self.mapped,
+            clock: self.clock,
+            nodes: self.nodes,
+            outbox: self.outbox,
+            limit: self.injector.limit(),
+            made: self.made,
+            lost: self.lost,
+        };
+        (rest, self.events, self.injector)
+    }
+
+    // An event that does not touch the device.
+    fn step_inside(self, event: &SiteEvent) -> Result<(Site, Outcome), NoMemory>
+        requires inside { uses_device event.now ≡ false }
+        requires fits { (seen : ℕ → List ℕ) × CanTake self seen event.now }
+        ensures stepped { IfOk result (λ pair. (shape : Shape) (seen : ℕ → List ℕ) (run : Progress) → IsSite shape self seen run → EventFits shape self event.now →
+            IsSite shape pair.0 seen (site_step shape run event.now).run × (pair.1 ≡ (site_step shape run event.now).outcome)) }
+        ensures nodes { IfOk result (λ pair. SameSetup self pair.0) }
+    {
+        if let Some(Loss { group, epoch }) = self.loss_against(event) {
+            return Ok((self, Outcome::SiteLost { group, epoch }));
+        }
+        match event {
+            SiteEvent::Tx(operations) => self.transact(operations),
+            SiteEvent::Close(gci) => self.close(*gci),
+            SiteEvent::Deliver(place) => self.deliver(*place),
+            SiteEvent::DeliverAll => self.deliver_all(),
+            SiteEvent::Inject => unreachable!(),
+            SiteEvent::Fail(node) => self.fail(*node),
+            SiteEvent::Restart(node) => self.restart(*node),
+            SiteEvent::Resend => self.resend(),
+            SiteEvent::Injector => unreachable!(),
         }
     }
 
     // A client's transaction: refused, with nothing changed, or accepted.
     fn transact(self, operations: &ClientOps) -> Result<(Site, Outcome), NoMemory>
-        requires fits { (file : List ℕ) × (shape : Shape) × (run : Progress) × IsSite shape self file run × (run.lost ≡ None) × TxFits shape self operations.now }
-        ensures stepped { IfOk result (λ pair. (shape : Shape) (file : List ℕ) (run : Progress) → IsSite shape self file run → TxFits shape self operations.now →
-            IsSite shape pair.0 file (tx_step shape operations.now run).run × (pair.1 ≡ (tx_step shape operations.now run).outcome)) }
-        ensures nodes { IfOk result (λ pair. SameNodes self pair.0) }
+        requires fits { (seen : ℕ → List ℕ) × (shape : Shape) × (run : Progress) × IsSite shape self seen run × (run.lost ≡ None) × TxFits shape self operations.now }
+        ensures stepped { IfOk result (λ pair. (shape : Shape) (seen : ℕ → List ℕ) (run : Progress) → IsSite shape self seen run → TxFits shape self operations.now →
+            IsSite shape pair.0 seen (tx_step shape operations.now run).run × (pair.1 ≡ (tx_step shape operations.now run).outcome)) }
+        ensures nodes { IfOk result (λ pair. SameSetup self pair.0) }
     {
         let Some(transid) = self.clock.next_transid() else {
             unreachable!();
@@ -249,12 +291,12 @@ impl Site {
 
     // Accepts the changes of a transaction: they are numbered, buffered, sent and stored.
     fn commit(self, changes: Changes) -> Result<(Site, Outcome), NoMemory>
-        requires accepted { (file : List ℕ) × (shape : Shape) × (run : Progress) × (operations : List ClientOp) × IsSite shape self file run × (run.lost ≡ None) × TxFits shape self operations
+        requires accepted { (seen : ℕ → List ℕ) × (shape : Shape) × (run : Progress) × (operations : List ClientOp) × IsSite shape self seen run × (run.lost ≡ None) × TxFits shape self operations
             × (refusal_of (rows_of shape run) operations ≡ None) × (changes ≡ tx_changes shape operations run) }
-        ensures committed { IfOk result (λ pair. (shape : Shape) (file : List ℕ) (run : Progress) (operations : List ClientOp) → IsSite shape self file run → TxFits shape self operations →
+        ensures committed { IfOk result (λ pair. (shape : Shape) (seen : ℕ → List ℕ) (run : Progress) (operations : List ClientOp) → IsSite shape self seen run → TxFits shape self operations →
             refusal_of (rows_of shape run) operations ≡ None → changes ≡ tx_changes shape operations run →
-            IsSite shape pair.0 file (committed shape operations run) × (pair.1 ≡ commit_outcome (committed shape operations run))) }
-        ensures nodes { IfOk result (λ pair. SameNodes self pair.0) }
+            IsSite shape pair.0 seen (committed shape operations run) × (pair.1 ≡ commit_outcome (committed shape operations run))) }
+        ensures nodes { IfOk result (λ pair. SameSetup self pair.0) }
     {
         let mut site = self;
         let Some(transid) = site.clock.draw() else {
@@ -278,10 +320,10 @@ impl Site {
 
     // The open epoch closes: the nodes tell the ends of their parts, and the next epoch opens.
     fn close(self, gci: bool) -> Result<(Site, Outcome), NoMemory>
-        requires fits { (file : List ℕ) × (shape : Shape) × (run : Progress) × IsSite shape self file run × (run.lost ≡ None) × (opened_of self + 2 ^ 32 < 2 ^ 64) }
-        ensures closed { IfOk result (λ pair. (shape : Shape) (file : List ℕ) (run : Progress) → IsSite shape self file run →
-            IsSite shape pair.0 file (close_step shape gci run).run × (pair.1 ≡ (close_step shape gci run).outcome)) }
-        ensures nodes { IfOk result (λ pair. SameNodes self pair.0) }
+        requires fits { (seen : ℕ → List ℕ) × (shape : Shape) × (run : Progress) × IsSite shape self seen run × (run.lost ≡ None) × (opened_of self + 2 ^ 32 < 2 ^ 64) }
+        ensures closed { IfOk result (λ pair. (shape : Shape) (seen : ℕ → List ℕ) (run : Progress) → IsSite shape self seen run →
+            IsSite shape pair.0 seen (close_step shape gci run).run × (pair.1 ≡ (close_step shape gci run).outcome)) }
+        ensures nodes { IfOk result (λ pair. SameSetup self pair.0) }
     {
         let mut site = self;
         let prev = site.clock.prev();
@@ -297,10 +339,10 @@ impl Site {
 
     // A node fails, where it is up: the next one of its group that covers takes its buckets over, or the group is lost.
     fn fail(self, node: u32) -> Result<(Site, Outcome), NoMemory>
-        requires fits { (file : List ℕ) × (shape : Shape) × (run : Progress) × IsSite shape self file run × (run.lost ≡ None) × (node < shape.buckets) }
-        ensures failed { IfOk result (λ pair. (shape : Shape) (file : List ℕ) (run : Progress) → IsSite shape self file run → run.lost ≡ None →
-            IsSite shape pair.0 file (fail_step shape node run).run × (pair.1 ≡ (fail_step shape node run).outcome)) }
-        ensures nodes { IfOk result (λ pair. SameNodes self pair.0) }
+        requires fits { (seen : ℕ → List ℕ) × (shape : Shape) × (run : Progress) × IsSite shape self seen run × (run.lost ≡ None) × (node < shape.buckets) }
+        ensures failed { IfOk result (λ pair. (shape : Shape) (seen : ℕ → List ℕ) (run : Progress) → IsSite shape self seen run → run.lost ≡ None →
+            IsSite shape pair.0 seen (fail_step shape node run).run × (pair.1 ≡ (fail_step shape node run).outcome)) }
+        ensures nodes { IfOk result (λ pair. SameSetup self pair.0) }
     {
         let mut site = self;
         let outcome = match site.nodes.fail(node) {
@@ -324,10 +366,10 @@ impl Site {
 
     // A node starts again, where it is down.
     fn restart(self, node: u32) -> Result<(Site, Outcome), NoMemory>
-        requires fits { (file : List ℕ) × (shape : Shape) × (run : Progress) × IsSite shape self file run × (run.lost ≡ None) × (node < shape.buckets) × (opened_of self + 1 < 2 ^ 64) }
-        ensures restarted { IfOk result (λ pair. (shape : Shape) (file : List ℕ) (run : Progress) → IsSite shape self file run → run.lost ≡ None →
-            IsSite shape pair.0 file (restart_step node run).run × (pair.1 ≡ (restart_step node run).outcome)) }
-        ensures nodes { IfOk result (λ pair. SameNodes self pair.0) }
+        requires fits { (seen : ℕ → List ℕ) × (shape : Shape) × (run : Progress) × IsSite shape self seen run × (run.lost ≡ None) × (node < shape.buckets) × (opened_of self + 1 < 2 ^ 64) }
+        ensures restarted { IfOk result (λ pair. (shape : Shape) (seen : ℕ → List ℕ) (run : Progress) → IsSite shape self seen run → run.lost ≡ None →
+            IsSite shape pair.0 seen (restart_step node run).run × (pair.1 ≡ (restart_step node run).outcome)) }
+        ensures nodes { IfOk result (λ pair. SameSetup self pair.0) }
     {
         let mut site = self;
         let outcome = match site.nodes.restart(node) {
@@ -341,10 +383,10 @@ impl Site {
 
     // Each owner sends again what is not acknowledged of its buckets.
     fn resend(self) -> Result<(Site, Outcome), NoMemory>
-        requires fits { (file : List ℕ) × (shape : Shape) × (run : Progress) × IsSite shape self file run × (run.lost ≡ None) }
-        ensures resent { IfOk result (λ pair. (shape : Shape) (file : List ℕ) (run : Progress) → IsSite shape self file run → run.lost ≡ None →
-            IsSite shape pair.0 file (resend_step shape run).run × (pair.1 ≡ (resend_step shape run).outcome)) }
-        ensures nodes { IfOk result (λ pair. SameNodes self pair.0) }
+        requires fits { (seen : ℕ → List ℕ) × (shape : Shape) × (run : Progress) × IsSite shape self seen run × (run.lost ≡ None) }
+        ensures resent { IfOk result (λ pair. (shape : Shape) (seen : ℕ → List ℕ) (run : Progress) → IsSite shape self seen run → run.lost ≡ None →
+            IsSite shape pair.0 seen (resend_step shape run).run × (pair.1 ≡ (resend_step shape run).outcome)) }
+        ensures nodes { IfOk result (λ pair. SameSetup self pair.0) }
     {
         let mut site = self;
         let messages = site.nodes.resend()?;
@@ -355,10 +397,10 @@ impl Site {
 
     // The message at a place reaches the event buffer, where there is one.
     fn deliver(self, place: u64) -> Result<(Site, Outcome), NoMemory>
-        requires fits { (file : List ℕ) × (shape : Shape) × (run : Progress) × IsSite shape self file run }
-        ensures delivered { IfOk result (λ pair. (shape : Shape) (file : List ℕ) (run : Progress) → IsSite shape self file run →
-            IsSite shape pair.0 file (deliver_step shape place run).run × (pair.1 ≡ (deliver_step shape place run).outcome)) }
-        ensures nodes { IfOk result (λ pair. SameNodes self pair.0) }
+        requires fits { (seen : ℕ → List ℕ) × (shape : Shape) × (run : Progress) × IsSite shape self seen run }
+        ensures delivered { IfOk result (λ pair. (shape : Shape) (seen : ℕ → List ℕ) (run : Progress) → IsSite shape self seen run →
+            IsSite shape pair.0 seen (deliver_step shape place run).run × (pair.1 ≡ (deliver_step shape place run).outcome)) }
+        ensures nodes { IfOk result (λ pair. SameSetup self pair.0) }
     {
         let mut site = self;
         let sent = site.outbox.len();
@@ -371,10 +413,10 @@ impl Site {
 
     // Each message that was never delivered, and whose sender did not fail since, reaches the event buffer, in order.
     fn deliver_all(self) -> Result<(Site, Outcome), NoMemory>
-        requires fits { (file : List ℕ) × (shape : Shape) × (run : Progress) × IsSite shape self file run }
-        ensures delivered { IfOk result (λ pair. (shape : Shape) (file : List ℕ) (run : Progress) → IsSite shape self file run →
-            IsSite shape pair.0 file (deliver_all_step shape run).run × (pair.1 ≡ (deliver_all_step shape run).outcome)) }
-        ensures nodes { IfOk result (λ pair. SameNodes self pair.0) }
+        requires fits { (seen : ℕ → List ℕ) × (shape : Shape) × (run : Progress) × IsSite shape self seen run }
+        ensures delivered { IfOk result (λ pair. (shape : Shape) (seen : ℕ → List ℕ) (run : Progress) → IsSite shape self seen run →
+            IsSite shape pair.0 seen (deliver_all_step shape run).run × (pair.1 ≡ (deliver_all_step shape run).outcome)) }
+        ensures nodes { IfOk result (λ pair. SameSetup self pair.0) }
     {
         let mut site = self;
         let mut tally = Tally::new();
@@ -387,78 +429,103 @@ impl Site {
 
     // The message at a place reaches the event buffer.
     fn receive(&mut self, place: u64) -> Result<Received, NoMemory>
-        requires fits { (file : List ℕ) × (shape : Shape) × (run : Progress) × IsSite shape self.old file run }
+        requires fits { (seen : ℕ → List ℕ) × (shape : Shape) × (run : Progress) × IsSite shape self.old seen run }
         requires place { place < sent_by_site self.old }
-        ensures received { IfOk result (λ answer. (shape : Shape) (file : List ℕ) (run : Progress) → IsSite shape self.old file run →
-            IsSite shape self.new file (deliver_step shape place run).run × (outcome_of_answer answer ≡ (deliver_step shape place run).outcome)) }
-        ensures nodes { SameNodes self.old self.new }
+        ensures received { IfOk result (λ answer. (shape : Shape) (seen : ℕ → List ℕ) (run : Progress) → IsSite shape self.old seen run →
+            IsSite shape self.new seen (deliver_step shape place run).run × (outcome_of_answer answer ≡ (deliver_step shape place run).outcome)) }
+        ensures nodes { SameSetup self.old self.new }
     {
         let message = self.outbox.deliver(place)?;
         self.events.receive(message)
     }
 
-    // The injector takes every whole epoch, logs those that have something to log, syncs the file, and tells the nodes of the last
-    // written one.
-    fn inject<D: LogDisk>(self, disk: &mut D) -> Result<(Site, Outcome), SiteFault>
-        requires fits { (shape : Shape) × (run : Progress) × IsSite shape self (D.seen disk.old 1) run }
-        ensures injected { IfOk result (λ pair. (shape : Shape) (run : Progress) → IsSite shape self (D.seen disk.old 1) run →
-            IsSite shape pair.0 (D.seen disk.new 1) (inject_step shape run).run × (pair.1 ≡ (inject_step shape run).outcome)) }
-        ensures nodes { IfOk result (λ pair. SameNodes self pair.0) }
-        ensures stopped { IfErr result (λ fault. (shape : Shape) (run : Progress) → IsSite shape self (D.seen disk.old 1) run →
-            LeavesLog run.written (written_bodies shape (injected shape run)) (D.seen disk.new 1) fault) }
-        ensures others { (other : ℕ) → other ≢ 1 → D.seen disk.new other ≡ D.seen disk.old other }
-        ensures cause { HasDiskCause (D.fault_count disk.old) (D.fault_count disk.new) result }
+    // The injector takes every whole epoch, logs those that have something to log, and tells the nodes of the last written one.
+    fn inject<D: LogDisk>(self, disk: &mut D) -> Stepped
+        requires fits { (shape : Shape) × (run : Progress) × IsSite shape self (D.seen disk.old) run }
+        ensures injected { IfOn result (λ site outcome. (shape : Shape) (run : Progress) → IsSite shape self (D.seen disk.old) run →
+            IsSite shape site (D.seen disk.new) (inject_step shape run).run × (outcome ≡ (inject_step shape run).outcome)) }
+        ensures nodes { IfOn result (λ site outcome. SameSetup self site) }
+        ensures stays { IfStopped result (λ stopped. stopped ≡ rest_of self) }
+        ensures part { IsCut result → (shape : Shape) (run : Progress) → IsSite shape self (D.seen disk.old) run →
+            HoldsPart (limit_of self) run.written (written_bodies shape (injected shape run)) (D.seen disk.new) }
+        ensures cause { HasStepCause (D.fault_count disk.old) (D.fault_count disk.new) result }
     {
-        let mut site = self;
-        let mut count = 0u64;
-        while let Some(logged) = site.take_next(disk)? {
-            count += u64::from(logged);
+        let (rest, events, injector) = self.apart();
+        match take_turn(events, injector, disk) {
+            Ok(turn) => {
+                let (site, outcome) = Site::behind(rest, turn);
+                Stepped::On(site, outcome)
+            }
+            Err(DiskLogFault::DiskFault) => Stepped::Stopped(rest),
+            Err(DiskLogFault::NoMemory) => Stepped::NoMemory,
         }
-        disk.sync(LOG_FILE)?;
-        // Only what is synced may be released.
-        site.nodes.acknowledge(site.log.last);
-        let missing = site.events.missing().unwrap_or(Missing {
+    }
+
+    // The site behind its injector's turn: only what is synced may be released.
+    fn behind(rest: StoppedSite, turn: Turn) -> (Site, Outcome)
+        requires fits { (shape : Shape) × (seen : ℕ → List ℕ) × (run : Progress) × IsStoppedSite shape rest run × IsInjectorAt shape turn.events turn.injector seen (injected shape run) }
+        ensures injected { (shape : Shape) (seen : ℕ → List ℕ) (run : Progress) → IsStoppedSite shape rest run → IsInjectorAt shape turn.events turn.injector seen (injected shape run) →
+            turn.count ≡ length (worth_logging shape run.journal (takeable shape run)) → IsSite shape result.0 seen (inject_step shape run).run × (result.1 ≡ (inject_step shape run).outcome) }
+        ensures nodes { HasSameSetup rest turn.injector result.0 }
+    {
+        let Turn {
+            events,
+            injector,
+            count,
+        } = turn;
+        let written = injector.written();
+        let missing = events.missing().unwrap_or(Missing {
             bucket: 0,
             place: None,
         });
-        let written = site.log.last;
-        Ok((
-            site,
-            Outcome::Wrote {
-                count,
-                written,
-                bucket: missing.bucket,
-                place: missing.place,
-            },
-        ))
+        let mut rest = rest;
+        rest.nodes.acknowledge(written);
+        let site = Site::of(rest, events, injector);
+        let outcome = Outcome::Wrote {
+            count,
+            written,
+            bucket: missing.bucket,
+            place: missing.place,
+        };
+        (site, outcome)
     }
 
-    // Takes the next epoch, and logs it where there is something to log. Answers whether there was, or `None` where the epoch
-    // is not whole.
-    fn take_next<D: LogDisk>(&mut self, disk: &mut D) -> Result<Option<bool>, SiteFault>
-        requires fits { (acknowledged : ℕ) × (shape : Shape) × (run : Progress) × IsSiteAt acknowledged shape self.old (D.seen disk.old 1) run }
-        ensures taken { IfOk result (λ taken. (acknowledged : ℕ) (shape : Shape) (run : Progress) → IsSiteAt acknowledged shape self.old (D.seen disk.old 1) run → HasTaken acknowledged shape run self.new (D.seen disk.new 1) taken) }
-        ensures nodes { SameNodes self.old self.new }
-        ensures stopped { IfErr result (λ fault. (acknowledged : ℕ) (shape : Shape) (run : Progress) → IsSiteAt acknowledged shape self.old (D.seen disk.old 1) run →
-            LeavesLog run.written (written_bodies shape (injected shape run)) (D.seen disk.new 1) fault) }
-        ensures others { (other : ℕ) → other ≢ 1 → D.seen disk.new other ≡ D.seen disk.old other }
-        ensures cause { HasDiskCause (D.fault_count disk.old) (D.fault_count disk.new) result }
+    // The injector stopped, and its log is opened again.
+    fn begin_again<D: LogDisk>(self, disk: &mut D) -> Stepped
+        requires fits { (shape : Shape) × (run : Progress) × IsSite shape self (D.seen disk.old) run × (opened_of self < 2 ^ 64) }
+        ensures recovered { IfOn result (λ site outcome. (shape : Shape) (run : Progress) → IsSite shape self (D.seen disk.old) run → opened_of self < 2 ^ 64 →
+            IsSite shape site (D.seen disk.new) (injector_step shape run).run × (outcome ≡ (injector_step shape run).outcome)) }
+        ensures nodes { IfOn result (λ site outcome. SameSetup self site) }
+        ensures stays { IfStopped result (λ stopped. stopped ≡ rest_of self) }
+        ensures part { IsCut result → (shape : Shape) (run : Progress) → IsSite shape self (D.seen disk.old) run → opened_of self < 2 ^ 64 →
+            IsLogImage A (limit_of self) (written_bodies shape run) (D.seen disk.new) }
+        ensures cause { HasStepCause (D.fault_count disk.old) (D.fault_count disk.new) result }
     {
-        let Some(assembled) = self.events.take_epoch() else {
-            return Ok(None);
+        let rest = self.apart().0;
+        let Ok(tables) = copy_tables(rest.alloc, rest.mapped.as_slice()) else {
+            return Stepped::NoMemory;
         };
-        let epoch = assembled.epoch;
-        let body = body_of(self.alloc, self.id, self.mapped.as_slice(), assembled)?;
-        if !has_something(&body) {
-            return Ok(Some(false));
+        match Injector::recover(rest.alloc, rest.id, rest.limit, tables, disk) {
+            Ok(injector) => step_of(Site::with_new(rest, injector)),
+            Err(DiskLogFault::DiskFault) => Stepped::Stopped(rest),
+            Err(DiskLogFault::NoMemory) => Stepped::NoMemory,
         }
-        let length = write_body(self.alloc, &body, self.log.length, disk)?;
-        self.log = LogEnd {
-            written: self.log.written + 1,
-            last: epoch,
-            length,
-        };
-        Ok(Some(true))
+    }
+
+    // A site with a new injector: its event buffer is empty and waits behind the last written epoch, and the owners send again.
+    fn with_new(rest: StoppedSite, injector: Injector) -> Result<(Site, Outcome), NoMemory>
+        requires fits { (shape : Shape) × (seen : ℕ → List ℕ) × (run : Progress) × IsStoppedSite shape rest run × inject.StandsFor injector (setup_of shape injector) (written_bodies shape run) seen }
+        ensures recovered { IfOk result (λ pair. (shape : Shape) (seen : ℕ → List ℕ) (run : Progress) → IsStoppedSite shape rest run → inject.StandsFor injector (setup_of shape injector) (written_bodies shape run) seen →
+            IsSite shape pair.0 seen (injector_step shape run).run × (pair.1 ≡ (injector_step shape run).outcome)) }
+        ensures nodes { IfOk result (λ pair. HasSameSetup rest injector pair.0) }
+    {
+        let written = injector.written();
+        let events = EventBuffer::new(rest.alloc, rest.nodes.buckets(), written)?;
+        let mut rest = rest;
+        rest.send_again()?;
+        let sent = rest.outbox.len();
+        let site = Site::of(rest, events, injector);
+        Ok((site, Outcome::Recovered { written, sent }))
     }
 }
 
@@ -484,11 +551,4 @@ fn answer_outcome(answer: Received) -> Outcome
         Received::Known => Outcome::Known,
         Received::Old => Outcome::Old,
     }
-}
-
-// A body has something to log.
-fn has_something(body: &EpochBody) -> bool
-    ensures { result ≡ has_something_to_log body.now }
-{
-    !body.changes.as_slice().is_empty() || body.reflected.is_some()
 }

@@ -1,9 +1,9 @@
 -- A script that is read keeps to the limits, and its operations suit its tables.
 use Rattle.std.proofs.Common.{◌≡◌, ℕ, zero, suc, ◌+◌, ◌-◌, ◌^◌, ◌<◌, ◌≤◌, Bool, true, false, ◌||◌, List, [], ◌∷◌, ◌++◌, length, map, take, Option, Some, None, refl, ap, sym, ◌∙◌, subst, append_assoc, append-nil, length-append, arith}
-use Rattle.std.specs.Prelude.{nat_le, nat_lt, ◌&&◌, ◌==◌, ◌*◌, not, filter_map, is_some, sum_by, if◌then◌else◌, IfSome, Result, Ok, Err}
+use Rattle.std.specs.Prelude.{nat_le, nat_lt, ◌&&◌, ◌*◌, not, filter_map, is_some, sum_by, if◌then◌else◌, IfSome, Result, Ok, Err}
 use Rattle.std.specs.Option.{option_map, option_map_or}
 use Rattle.std.specs.List.{AllByRecursion, cons_option, enumerate_from, find, list_all, list_any, position_or_len, slice_get}
-use Rattle.std.proofs.lemmas.Bool.{and_parts, cond-true, eqb-true, false≢true, leb-true, lt-ltb, ltb-false, not-false}
+use Rattle.std.proofs.lemmas.Bool.{and_parts, cond-true, false≢true, leb-true, lt-ltb, ltb-false, not-false}
 use Rattle.std.proofs.lemmas.List.{length-map}
 use Rattle.std.proofs.lemmas.List.Elements.{filter_map-append}
 use Rattle.std.proofs.lemmas.List.Folds.{find_at, list_any-append}
@@ -23,7 +23,7 @@ use Rattle.rb_text_defs.specs.declared.script.LinedEvent.{LinedEvent}
 use Rattle.rb_text_defs.specs.declared.script.Script.{Script}
 use Rattle.rb_text_defs.specs.Words.{lines_of}
 use Rattle.rb_text_defs.specs.Form.{Operation, Form, SiteLine, TableLine, TxLine, EventLine, Reading, Wrong, Skipped, Says, reading_of}
-use Rattle.rb_text_defs.specs.Script.{most_bytes, most_lines, most_tables, most_columns, most_groups, most_replicas, most_changes, most_row_bytes, most_tx_changes, most_work, default_limit, row_bytes, work_of, default_site, first_of, nodes_in, shape_in, table_in, tables_in, is_event, changes_in_form, client_op, row_for, table_number, has_values, is_named, suits_table, suits_tables, events_of, form_in, is_misplaced, limit_passed, refusal_of_line, refused_lines, script_in, script_of, script_of_readings}
+use Rattle.rb_text_defs.specs.Script.{most_bytes, most_lines, most_tables, most_columns, most_groups, most_replicas, most_changes, most_row_bytes, most_tx_changes, most_work, least_limit, most_limit, row_bytes, work_of, default_site, first_of, nodes_in, shape_in, table_in, tables_in, is_event, changes_in_form, client_op, row_for, table_number, has_values, is_named, suits_table, suits_tables, events_of, form_in, is_misplaced, limit_passed, refusal_of_line, refused_lines, script_in, script_of, script_of_readings}
 use Rattle.rb_text_defs.specs.Legal.{IsLegal, IsLegalTable, IsLegalValue, IsLegalOperation, IsLegalEvent, HasLegalRow, changes_in_event, columns_at}
 use Rattle.rb_text_defs.proofs.Said.{IsSaidBy, IsSaidOperation, reading_said}
 use Rattle.rb_text_defs.proofs.Lines.{events_more, forms_more, forms_of, no_events, none_given, not_misplaced, or_left, or_right}
@@ -73,7 +73,7 @@ all_append P (x ∷ xs) ys all more = (all.0, all_append P xs ys all.1 more)
 record IsLegalShape (shape : SiteSetup) : Type 0 where
   groups : (1 ≤ shape.groups) × (shape.groups ≤ most_groups)
   replicas : (1 ≤ shape.replicas) × (shape.replicas ≤ most_replicas)
-  limit : shape.limit ≡ default_limit
+  limit : (least_limit ≤ shape.limit) × (shape.limit ≤ most_limit)
 
 -- forms, and the events of so many lines, that keep to the limits
 record Keeps (forms : List Form) (told : List LinedEvent) (count : ℕ) : Type 0 where
@@ -194,16 +194,17 @@ so_far_more readings (Says (SiteLine site groups replicas limit)) so fine said =
     let form = SiteLine site groups replicas limit in
     let forms = forms_of readings in
     let placed = not_misplaced forms (length readings + 1) form fine in
-    let within = none_passed (nat_lt most_lines (length readings + 1)) (not (nat_le 1 groups && nat_le groups most_groups)) (not (nat_le 1 replicas && nat_le replicas most_replicas)) (not (limit == default_limit))
+    let within = none_passed (nat_lt most_lines (length readings + 1)) (not (nat_le 1 groups && nat_le groups most_groups)) (not (nat_le 1 replicas && nat_le replicas most_replicas)) (not (nat_le least_limit limit && nat_le limit most_limit))
     limits.Lines limits.Groups limits.Replicas limits.LogLimit (within_limits forms (length readings + 1) form fine) in
     let groups_in = and_parts (nat_le 1 groups) (nat_le groups most_groups) (not-false (nat_le 1 groups && nat_le groups most_groups) within.1) in
     let replicas_in = and_parts (nat_le 1 replicas) (nat_le replicas most_replicas) (not-false (nat_le 1 replicas && nat_le replicas most_replicas) within.2) in
+    let limit_in = and_parts (nat_le least_limit limit) (nat_le limit most_limit) (not-false (nat_le least_limit limit && nat_le limit most_limit) within.3) in
     let none = none_given shape_in forms (or_right (list_any is_event forms) (list_any (λ form. is_some (shape_in form)) forms) placed) in
     let quiet : list_any is_event forms ≡ false = or_left (list_any is_event forms) (list_any (λ form. is_some (shape_in form)) forms) placed in
     let shape : IsLegalShape (record { groups = groups; replicas = replicas; limit = limit }) = record {
       groups = (leb-true 1 groups groups_in.0, leb-true groups most_groups groups_in.1);
       replicas = (leb-true 1 replicas replicas_in.0, leb-true replicas most_replicas replicas_in.1);
-      limit = eqb-true limit default_limit (not-false (limit == default_limit) within.3);
+      limit = (leb-true least_limit limit limit_in.0, leb-true limit most_limit limit_in.1);
     } in
     to_so_far readings (Says form) (forms ++ form ∷ []) (events_of (tables_in forms) readings ++ []) (forms_more readings (Says form))
     (events_behind readings (Says form) form [] refl (events_more (tables_in forms) readings (Says form)))
@@ -271,7 +272,7 @@ all_said [] = tt
 all_said (line ∷ lines) = (reading_said line, all_said lines)
 
 shape_legal : (shape : Option SiteSetup) → IfSome shape IsLegalShape → IsLegalShape (option_map_or (λ shape. shape) shape default_site)
-shape_legal None legal = record { groups = (omega arith, omega arith); replicas = (omega arith, omega arith); limit = refl }
+shape_legal None legal = record { groups = (omega arith, omega arith); replicas = (omega arith, omega arith); limit = (omega arith, omega arith) }
 shape_legal (Some shape) legal = legal
 
 -- as many nodes as its setup says

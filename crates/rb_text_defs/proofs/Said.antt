@@ -179,7 +179,8 @@ form_from_said first words =
     (if_chosen IsSaid (is_word (codes "log") first) (site_event (λ site. events.Log site) words) _ (site_event_said (λ site. events.Log site) (λ site is. ((λ tables nodes within. is), refl)) words)
     (if_chosen IsSaid (is_word (codes "fail") first) (node_event (λ site node. events.Fail site node) words) _ (node_event_said (λ site node. events.Fail site node) (λ site node is. ((λ tables nodes within. (is, leb-false nodes node within)), refl)) words)
     (if_chosen IsSaid (is_word (codes "restart") first) (node_event (λ site node. events.Restart site node) words) _ (node_event_said (λ site node. events.Restart site node) (λ site node is. ((λ tables nodes within. (is, leb-false nodes node within)), refl)) words)
-    (if_chosen IsSaid (is_word (codes "resend") first) (site_event (λ site. events.Resend site) words) None (site_event_said (λ site. events.Resend site) (λ site is. ((λ tables nodes within. is), refl)) words) tt))))))))))
+    (if_chosen IsSaid (is_word (codes "resend") first) (site_event (λ site. events.Resend site) words) _ (site_event_said (λ site. events.Resend site) (λ site is. ((λ tables nodes within. is), refl)) words)
+    (if_chosen IsSaid (is_word (codes "injector") first) (site_event (λ site. events.Injector site) words) None (site_event_said (λ site. events.Injector site) (λ site is. ((λ tables nodes within. is), refl)) words) tt)))))))))))
 
 form_said : (words : List Word) → IfSome (form_of words) IsSaid
 unfolding form_of

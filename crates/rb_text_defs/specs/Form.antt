@@ -147,7 +147,8 @@ form_from first words =
     else (if is_word (codes "fail") first then node_event (λ site node. events.Fail site node) words
     else (if is_word (codes "restart") first then node_event (λ site node. events.Restart site node) words
     else (if is_word (codes "resend") first then site_event (λ site. events.Resend site) words
-    else None))))))))))
+    else (if is_word (codes "injector") first then site_event (λ site. events.Injector site) words
+    else None)))))))))))
 
 -- the form of a line of these words
 unfoldable pub form_of : List Word → Option Form

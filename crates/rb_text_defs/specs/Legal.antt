@@ -15,7 +15,7 @@ use Rattle.rb_base.specs.declared.script.ClientOp.{ClientOp}
 use Rattle.rb_base.specs.declared.script.Event.{Event}
 use Rattle.rb_base.specs.declared.script.Event.TheVariants as events
 use Rattle.rb_text_defs.specs.declared.script.Script.{Script}
-use Rattle.rb_text_defs.specs.Script.{most_lines, most_tables, most_columns, most_row_bytes, most_groups, most_replicas, default_limit, most_changes, row_bytes, suits_columns}
+use Rattle.rb_text_defs.specs.Script.{most_lines, most_tables, most_columns, most_row_bytes, most_groups, most_replicas, least_limit, most_limit, most_changes, row_bytes, suits_columns}
 
 -- a column that a line can declare: a number, or a text of at least 1 byte at most
 abbrev pub IsLegalColumn : Column → Type 0
@@ -70,6 +70,7 @@ IsLegalEvent tables nodes (events.Log site) = site ≡ A
 IsLegalEvent tables nodes (events.Fail site node) = (site ≡ A) × (node < nodes)
 IsLegalEvent tables nodes (events.Restart site node) = (site ≡ A) × (node < nodes)
 IsLegalEvent tables nodes (events.Resend site) = site ≡ A
+IsLegalEvent tables nodes (events.Injector site) = site ≡ A
 IsLegalEvent tables nodes event = ⊥
 
 -- how many changes an event may make
@@ -81,7 +82,7 @@ changes_in_event event = 0
 pub record IsLegal (script : Script) : Type 0 where
   pub groups : (1 ≤ script.setup.a.groups) × (script.setup.a.groups ≤ most_groups)
   pub replicas : (1 ≤ script.setup.a.replicas) × (script.setup.a.replicas ≤ most_replicas)
-  pub limit : script.setup.a.limit ≡ default_limit
+  pub limit : (least_limit ≤ script.setup.a.limit) × (script.setup.a.limit ≤ most_limit)
   pub few_tables : length script.setup.tables ≤ most_tables
   pub tables : AllByRecursion IsLegalTable script.setup.tables
   pub events : AllByRecursion (λ lined. IsLegalEvent script.setup.tables (script.setup.a.groups * script.setup.a.replicas) lined.event) script.events

@@ -1,10 +1,12 @@
 -- The report: a title, a line for each event with what it did, the log, the tables, and an end; each line ends with a line feed.
 use Rattle.std.specs.Prelude.{ℕ, ◌+◌, ◌/◌, ◌%◌, ◌==◌, nat_le, nat_lt, ◌&&◌, not, if◌then◌else◌, List, [], ◌∷◌, ◌++◌, length, map, codes, Option, Some, None}
-use Rattle.std.specs.List.{concat, flat_map}
+use Rattle.std.specs.List.{concat, flat_map, last_or}
+use Rattle.std.specs.Option.{option_map_or}
 use Rattle.std.specs.Fmt.{decimal}
 use Rattle.rb_base.specs.declared.site.SiteId.{SiteId}
 use Rattle.rb_base.specs.declared.site.SiteId.TheVariants.{A, B}
 use Rattle.rb_base.specs.declared.epoch.Epoch.{Epoch}
+use Rattle.rb_base.specs.declared.body.IndexRow.{IndexRow}
 use Rattle.rb_base.specs.declared.row.Value.{Value}
 use Rattle.rb_base.specs.declared.row.Value.TheVariants.{Num, Text}
 use Rattle.rb_base.specs.declared.row.Row.{Row}
@@ -124,19 +126,33 @@ table_lines site table =
     concat (codes "table " ∷ letter_of site ∷ codes " " ∷ table.name ∷ labelled (codes " rows=") (length table.rows) ∷ [])
     ∷ map row_line table.rows
 
--- what a log amounts to: its files, the epochs written, and the last of them, or 0
-pub record LogCounts : Type 0 where
+-- a log: how many files it has, and the row of each epoch in its index
+pub record LogRows : Type 0 where
   pub files : ℕ
-  pub epochs : ℕ
-  pub written : ℕ
+  pub rows : List IndexRow
+
+-- the epoch of the last of these rows, or 0
+abbrev pub last_in : List IndexRow → ℕ
+last_in rows = option_map_or (λ row. row.epoch.0) (last_or None rows) 0
+
+-- an epoch in the index: its GCI, where it stands, and how many changes of each kind it has
+unfoldable pub index_line : IndexRow → List ℕ
+index_line row =
+    concat (labelled (codes "epoch ") row.epoch.0 ∷ labelled (codes " gci=") row.gci ∷ labelled (codes " file=") row.file
+    ∷ labelled (codes " pos=") row.position ∷ labelled (codes " next=") row.next_position ∷ labelled (codes " ins=") row.inserts
+    ∷ labelled (codes " upd=") row.updates ∷ labelled (codes " del=") row.deletes ∷ [])
+
+-- the lines of a log
+abbrev pub log_lines : SiteId → LogRows → List (List ℕ)
+log_lines site log = log_line site log.files (length log.rows) (last_in log.rows) ∷ map index_line log.rows
 
 -- the lines of a report of a run at site A: these events, this log, these tables
-abbrev pub report_lines : List (ℕ × Outcome) → LogCounts → List NamedRows → List (List ℕ)
+abbrev pub report_lines : List (ℕ × Outcome) → LogRows → List NamedRows → List (List ℕ)
 report_lines outcomes log tables =
     codes "ndb replication report"
     ∷ (map (λ lined. outcome_line lined.0 lined.1) outcomes
-    ++ (log_line A log.files log.epochs log.written ∷ (flat_map (table_lines A) tables ++ codes "end" ∷ [])))
+    ++ (log_lines A log ++ (flat_map (table_lines A) tables ++ codes "end" ∷ [])))
 
 -- the report of such a run
-unfoldable pub report_text : List (ℕ × Outcome) → LogCounts → List NamedRows → List ℕ
+unfoldable pub report_text : List (ℕ × Outcome) → LogRows → List NamedRows → List ℕ
 report_text outcomes log tables = text_of_lines (report_lines outcomes log tables)

@@ -1,5 +1,5 @@
 -- The script: what its lines say together, and the first one that is refused.
-use Rattle.std.specs.Prelude.{ℕ, ◌+◌, ◌*◌, ◌==◌, nat_le, nat_lt, ◌&&◌, ◌||◌, not, Bool, true, false, if◌then◌else◌, List, [], ◌∷◌, ◌++◌, length, map, filter_map, take, sum_by, Option, Some, None, is_some, Result, Ok, Err}
+use Rattle.std.specs.Prelude.{ℕ, ◌+◌, ◌*◌, nat_le, nat_lt, ◌&&◌, ◌||◌, not, Bool, true, false, if◌then◌else◌, List, [], ◌∷◌, ◌++◌, length, map, filter_map, take, sum_by, Option, Some, None, is_some, Result, Ok, Err}
 use Rattle.std.specs.Str.{bytes_eq}
 use Rattle.std.specs.List.{find, list_any, list_all, enumerate_from, position}
 use Rattle.std.specs.Option.{option_map, option_map_or, option_and_then}
@@ -54,17 +54,24 @@ most_groups = 8
 abbrev pub most_replicas : ℕ
 most_replicas = 4
 
--- the length in bytes from which a site's files are rotated, the only one for now
+-- the length in bytes from which a site's files are rotated, where no line gives it
 abbrev pub default_limit : ℕ
 default_limit = 1048576
+
+-- the least one that a line may give, and the greatest
+abbrev pub least_limit : ℕ
+least_limit = 512
+
+abbrev pub most_limit : ℕ
+most_limit = 67108864
 
 -- how many changes a transaction has
 abbrev pub most_tx_changes : ℕ
 most_tx_changes = 4096
 
--- how many changes all transactions have, so that no file reaches the limit of rotation
+-- how many changes all transactions have
 abbrev pub most_changes : ℕ
-most_changes = 400
+most_changes = 100000
 
 -- how much work a script is
 abbrev pub most_work : ℕ
@@ -173,11 +180,12 @@ abbrev pub closes_in_form : Form → ℕ
 closes_in_form (EventLine (events.Close site gci)) = 1
 closes_in_form form = 0
 
--- how many times it makes nodes begin again: a node fails or starts, or all owners send again
+-- how many times it makes nodes begin again: a node fails or starts, or all owners send again, by themselves or to a new injector
 abbrev pub restarts_in_form : Form → ℕ
 restarts_in_form (EventLine (events.Fail site node)) = 1
 restarts_in_form (EventLine (events.Restart site node)) = 1
 restarts_in_form (EventLine (events.Resend site)) = 1
+restarts_in_form (EventLine (events.Injector site)) = 1
 restarts_in_form form = 0
 
 -- how much work forms are: all changes and closes, 32 for each close, as often as all may be sent
@@ -189,7 +197,7 @@ abbrev pub limits_of_form : (earlier : List Form) → Form → List (Bool × Lim
 limits_of_form earlier (SiteLine site groups replicas limit) =
     (not (nat_le 1 groups && nat_le groups most_groups), limits.Groups)
     ∷ (not (nat_le 1 replicas && nat_le replicas most_replicas), limits.Replicas)
-    ∷ (not (limit == default_limit), limits.LogLimit) ∷ []
+    ∷ (not (nat_le least_limit limit && nat_le limit most_limit), limits.LogLimit) ∷ []
 limits_of_form earlier (TableLine name columns) =
     (nat_lt most_tables (length (tables_in earlier) + 1), limits.Tables)
     ∷ (nat_lt most_columns (length columns), limits.Columns)

@@ -1,46 +1,61 @@
 -- What a run that goes on, or stops, leaves of its log and of its report.
-use Rattle.std.proofs.Common.{◌≡◌, ℕ, ◌+◌, ◌*◌, ◌<◌, ◌≤◌, List, [], ◌∷◌, ◌++◌, length, fold, refl, sym, ap, subst, ◌∙◌, arith, inl, inr, append_assoc}
+use Rattle.std.proofs.Common.{◌≡◌, ℕ, ◌+◌, ◌*◌, ◌<◌, ◌≤◌, List, [], ◌∷◌, ◌++◌, length, fold, refl, sym, ap, ap₂, subst, ◌∙◌, arith, inl, inr, append_assoc}
 use Rattle.std.specs.Prelude.{sum_by, codes}
 use Rattle.std.specs.List.{AllByRecursion, flat_map}
-use Rattle.std.proofs.lemmas.List.{append-nil, take_all, length-append}
+use Rattle.std.proofs.lemmas.List.{append-nil, take_all, take-append-le, length-append}
 use Rattle.std.proofs.lemmas.List.Sums.{fold-append, sum_by-append, sum_by-cons}
 use Rattle.std.proofs.lemmas.Grind.{flat_map-append}
+use Rattle.rb_base.specs.declared.site.SiteId.{SiteId}
 use Rattle.rb_base.specs.declared.site.SiteId.TheVariants.{A}
 use Rattle.rb_base.specs.declared.schema.Schema.{Schema}
 use Rattle.rb_base.specs.declared.body.EpochBody.{EpochBody}
+use Rattle.rb_base.specs.declared.body.IndexRow.{IndexRow}
 use Rattle.rb_base.specs.declared.script.Setup.{Setup}
+use Rattle.rb_log_defs.specs.File.{binlog_files, index_rows}
 use Rattle.rb_base.specs.declared.script.Event.{Event}
 use Rattle.rb_base.specs.declared.script.Event.TheVariants as events
 use Rattle.rb_base.specs.declared.outcome.Outcome.{Outcome}
-use Rattle.rb_log_defs.specs.File.{binlog_files}
 use Rattle.rb_journal_defs.specs.Body.{Shape}
 use Rattle.rb_text_defs.specs.declared.script.LinedEvent.{LinedEvent}
 use Rattle.rb_text_defs.specs.declared.script.Script.{Script}
-use Rattle.rb_text_defs.specs.Script.{default_limit}
 use Rattle.rb_text_defs.specs.Legal.{IsLegal, IsLegalEvent, changes_in_event}
-use Rattle.rb_text_defs.specs.Report.{outcome_line, log_line, table_lines, text_of_lines}
-use Rattle.rb_play_defs.specs.Step.{Progress, beginning, Stepped, written_bodies, last_epoch, deliver_all_step, inject_step, site_step}
-use Rattle.rb_play_defs.specs.Play.{shape_of, log_step, event_step, Played, played_on, not_played, play_of, play, log_of, tables_left, counts_of, report_of}
+use Rattle.rb_text_defs.specs.Report.{outcome_line, log_lines, table_lines, text_of_lines}
+use Rattle.rb_play_defs.specs.Step.{Progress, beginning, Stepped, written_bodies, deliver_all_step, inject_step, site_step}
+use Rattle.rb_play_defs.specs.Play.{shape_of, log_step, event_step, Played, played_on, not_played, play_of, play, log_of, tables_left, log_rows, report_of, HoldsLogOf}
+use Rattle.rb_play_defs.specs.Part.{HoldsPart}
 use Rattle.rb_play_defs.specs.Sound.{IsSound}
 use Rattle.rb_play_defs.specs.declared.event.SiteEvent.TheVariants as happenings
-use Rattle.rb_play_defs.proofs.Grows.{Begins, goes_site, goes_on, goes}
+use Rattle.rb_play_defs.proofs.Grows.{Begins, begins_self, goes_site, goes_on, goes}
 use Rattle.rb_play_defs.proofs.Counts.{changes_in_journal, counted}
 use Rattle.rb_print.proofs.ReportLaws.{report_pieces}
-use Rattle.rb_site.specs.declared.fault.SiteFault.{SiteFault}
+use Rattle.rb_device_defs.specs.Image.{HoldsLog, IsLogImage}
+use Rattle.rb_device_defs.proofs.ImageLaws.{whole_is_image}
 use Rattle.rb_site.specs.declared.site.Site.{Site}
-use Rattle.rb_site.specs.Fault.{LeavesLog, LeavesPart}
-use Rattle.rb_site.specs.Site.{IsSite, opened_of, shape_of as site_shape}
-use Rattle.rb_site.proofs.Device.{leaves_log, part_of_more, least_of_fewer}
-use Rattle.rb_site.proofs.TakeLaws.{leaves_first}
+use Rattle.rb_site.specs.Site.{IsSite, opened_of, limit_of, shape_of as site_shape}
 use Rattle.rb_site.proofs.StandLaws.{made_is, drawn_is, opened_is}
-use Rattle.rb_top.specs.Run.{IsLogOfScript, HasRoomFor, turn_of, turn_step, joined, told}
+use Rattle.rb_top.specs.Run.{HasRoomFor, turn_of, turn_step, joined, told}
 use Rattle.rb_top.specs.declared.play.Turn.{Turn}
 use Rattle.rb_run_laws.proofs.LegalFits.{operations_fit}
 
 -- a part of some bodies is a part of those that begin with them
-more_of : (first whole : List EpochBody) (file : List ℕ) (fault : SiteFault) → Begins first whole → LeavesLog 0 first file fault → LeavesLog 0 whole file fault
-more_of first whole file fault more left =
-    subst (λ (bodies : List EpochBody). LeavesLog 0 bodies file fault) (sym more.whole_is) (part_of_more 0 first more.rest file fault left)
+pub more_of : (limit least : ℕ) (first whole : List EpochBody) (seen : ℕ → List ℕ) → Begins first whole → HoldsPart limit least first seen → HoldsPart limit 0 whole seen
+more_of limit least first whole seen more left =
+    subst (λ (bodies : List EpochBody). HoldsPart limit 0 bodies seen) (sym more.whole_is) (record {
+      count = left.count;
+      least_are_there = omega arith;
+      within = omega (arith, left.within, length-append first more.rest);
+      image = subst (λ (bodies : List EpochBody). IsLogImage A limit bodies seen) (sym (take-append-le left.count first more.rest left.within)) left.image;
+    })
+
+-- the log of all bodies so far is a part of those that begin with them
+pub whole_part : (limit : ℕ) (first whole : List EpochBody) (seen : ℕ → List ℕ) → Begins first whole → HoldsLog A limit first seen → HoldsPart limit 0 whole seen
+whole_part limit first whole seen more held =
+    more_of limit 0 first whole seen more (record {
+      count = length first;
+      least_are_there = omega arith;
+      within = omega arith;
+      image = subst (λ (bodies : List EpochBody). IsLogImage A limit bodies seen) (sym (take_all (length first) first (omega arith))) (whole_is_image A limit first seen held);
+    })
 
 -- an event of a script does what it is for the site
 pub turn_is : (shape : Shape) (run : Progress) (event : Event) → turn_step shape run (turn_of event) ≡ event_step shape run event
@@ -68,12 +83,12 @@ pub turn_as : (shape : Shape) (run : Progress) (event : Event) (turn : Turn) →
 turn_as shape run event turn is = ap (turn_step shape run) is ∙ turn_is shape run event
 
 -- what a step of a site told is told of the event
-pub stepped_as : (shape : Shape) (step other : Stepped) (new : Site) (file : List ℕ) (outcome : Outcome) → step ≡ other → IsSite shape new file step.run × (outcome ≡ step.outcome) → IsSite shape new file other.run × (outcome ≡ other.outcome)
-stepped_as shape step other new file outcome is held = subst (λ (s : Stepped). IsSite shape new file s.run × (outcome ≡ s.outcome)) is held
+pub stepped_as : (shape : Shape) (step other : Stepped) (new : Site) (seen : ℕ → List ℕ) (outcome : Outcome) → step ≡ other → IsSite shape new seen step.run × (outcome ≡ step.outcome) → IsSite shape new seen other.run × (outcome ≡ other.outcome)
+stepped_as shape step other new seen outcome is held = subst (λ (s : Stepped). IsSite shape new seen s.run × (outcome ≡ s.outcome)) is held
 
-pub stopped_as : (shape : Shape) (least : ℕ) (step other : Stepped) (file : List ℕ) (fault : SiteFault) → step ≡ other → LeavesLog least (written_bodies shape step.run) file fault → LeavesLog 0 (written_bodies shape other.run) file fault
-stopped_as shape least step other file fault is left =
-    subst (λ (s : Stepped). LeavesLog 0 (written_bodies shape s.run) file fault) is (least_of_fewer least 0 (written_bodies shape step.run) file fault (omega arith) left)
+pub stopped_as : (shape : Shape) (limit least : ℕ) (step other : Stepped) (seen : ℕ → List ℕ) → step ≡ other → HoldsPart limit least (written_bodies shape step.run) seen → HoldsPart limit 0 (written_bodies shape other.run) seen
+stopped_as shape limit least step other seen is left =
+    subst (λ (s : Stepped). HoldsPart limit 0 (written_bodies shape s.run) seen) is (more_of limit least (written_bodies shape step.run) (written_bodies shape step.run) seen (begins_self (written_bodies shape step.run)) left)
 
 -- `log` is the delivery of all messages, and the injector's turn behind it
 pub log_is : (shape : Shape) (run : Progress) →
@@ -85,26 +100,25 @@ unfolding log_step site_step deliver_all_step inject_step
 log_is shape run = refl
 
 -- a `log` that stopped in its first half
-pub stopped_first : (shape : Shape) (run : Progress) (site : Site) (before file : List ℕ) (fault : SiteFault) → IsSite shape site before run → LeavesLog run.written (written_bodies shape (site_step shape run happenings.DeliverAll).run) file fault → LeavesLog 0 (written_bodies shape (log_step shape run).run) file fault
-stopped_first shape run site before file fault held left =
+pub stopped_first : (shape : Shape) (limit : ℕ) (run : Progress) (site : Site) (before seen : ℕ → List ℕ) → IsSite shape site before run → HoldsPart limit run.written (written_bodies shape (site_step shape run happenings.DeliverAll).run) seen → HoldsPart limit 0 (written_bodies shape (log_step shape run).run) seen
+stopped_first shape limit run site before seen held left =
     let next : Progress = (site_step shape run happenings.DeliverAll).run in
-    subst (λ (s : Stepped). LeavesLog 0 (written_bodies shape s.run) file fault) (sym (log_is shape run))
-    (more_of (written_bodies shape next) (written_bodies shape (site_step shape next happenings.Inject).run) file fault
-    (goes_site shape next happenings.Inject (goes_site shape run happenings.DeliverAll held.sound).sound).grows
-    (least_of_fewer run.written 0 (written_bodies shape next) file fault (omega arith) left))
+    subst (λ (s : Stepped). HoldsPart limit 0 (written_bodies shape s.run) seen) (sym (log_is shape run))
+    (more_of limit run.written (written_bodies shape next) (written_bodies shape (site_step shape next happenings.Inject).run) seen
+    (goes_site shape next happenings.Inject (goes_site shape run happenings.DeliverAll held.sound).sound).grows left)
 
 -- and in its second
-pub stopped_second : (shape : Shape) (run : Progress) (file : List ℕ) (fault : SiteFault) → LeavesLog (site_step shape run happenings.DeliverAll).run.written (written_bodies shape (site_step shape (site_step shape run happenings.DeliverAll).run happenings.Inject).run) file fault → LeavesLog 0 (written_bodies shape (log_step shape run).run) file fault
-stopped_second shape run file fault left =
-    subst (λ (s : Stepped). LeavesLog 0 (written_bodies shape s.run) file fault) (sym (log_is shape run))
-    (least_of_fewer _ 0 _ file fault (omega arith) left)
+pub stopped_second : (shape : Shape) (limit least : ℕ) (run : Progress) (seen : ℕ → List ℕ) → HoldsPart limit least (written_bodies shape (site_step shape (site_step shape run happenings.DeliverAll).run happenings.Inject).run) seen → HoldsPart limit 0 (written_bodies shape (log_step shape run).run) seen
+stopped_second shape limit least run seen left =
+    subst (λ (s : Stepped). HoldsPart limit 0 (written_bodies shape s.run) seen) (sym (log_is shape run))
+    (more_of limit least _ _ seen (begins_self _) left)
 
 -- and one that was played
-pub logged_as : (shape : Shape) (run : Progress) (new : Site) (file : List ℕ) (first second outcome : Outcome) → first ≡ (site_step shape run happenings.DeliverAll).outcome →
-    IsSite shape new file (site_step shape (site_step shape run happenings.DeliverAll).run happenings.Inject).run × (second ≡ (site_step shape (site_step shape run happenings.DeliverAll).run happenings.Inject).outcome) →
-    outcome ≡ joined first second → IsSite shape new file (log_step shape run).run × (outcome ≡ (log_step shape run).outcome)
-logged_as shape run new file first second outcome delivered wrote is =
-    subst (λ (s : Stepped). IsSite shape new file s.run × (outcome ≡ s.outcome)) (sym (log_is shape run))
+pub logged_as : (shape : Shape) (run : Progress) (new : Site) (seen : ℕ → List ℕ) (first second outcome : Outcome) → first ≡ (site_step shape run happenings.DeliverAll).outcome →
+    IsSite shape new seen (site_step shape (site_step shape run happenings.DeliverAll).run happenings.Inject).run × (second ≡ (site_step shape (site_step shape run happenings.DeliverAll).run happenings.Inject).outcome) →
+    outcome ≡ joined first second → IsSite shape new seen (log_step shape run).run × (outcome ≡ (log_step shape run).outcome)
+logged_as shape run new seen first second outcome delivered wrote is =
+    subst (λ (s : Stepped). IsSite shape new seen s.run × (outcome ≡ s.outcome)) (sym (log_is shape run))
     (wrote.0, is ∙ ap (λ o. joined o second) delivered ∙ ap (joined (site_step shape run happenings.DeliverAll).outcome) wrote.1)
 
 -- one event more is played
@@ -123,17 +137,17 @@ told_more outcomes line outcome =
     ∙ ap (λ (text : List ℕ). told outcomes ++ text) (append-nil (outcome_line line outcome ++ 10 ∷ []))
 
 -- a site and the text at the start
-pub starts : (setup : Setup) (schemas : List Schema) (site : Site) (file : List ℕ) → schemas ≡ setup.tables → IsSite (site_shape schemas setup.a.groups setup.a.replicas) site file (beginning setup.a.groups setup.a.replicas) → IsSite (shape_of setup) site file (play_of setup []).run
+pub starts : (setup : Setup) (schemas : List Schema) (site : Site) (seen : ℕ → List ℕ) → schemas ≡ setup.tables → IsSite (site_shape schemas setup.a.groups setup.a.replicas) site seen (beginning setup.a.groups setup.a.replicas) → IsSite (shape_of setup) site seen (play_of setup []).run
 unfolding play_of
-starts setup schemas site file same held = subst (λ (tables : List Schema). IsSite (site_shape tables setup.a.groups setup.a.replicas) site file (beginning setup.a.groups setup.a.replicas)) same held
+starts setup schemas site seen same held = subst (λ (tables : List Schema). IsSite (site_shape tables setup.a.groups setup.a.replicas) site seen (beginning setup.a.groups setup.a.replicas)) same held
 
 pub told_nothing : (setup : Setup) (text : List ℕ) → text ≡ text ++ told (play_of setup []).outcomes
 unfolding play_of
 told_nothing setup text = sym (append-nil text)
 
 -- and an event later
-pub stands_more : (setup : Setup) (lined : List LinedEvent) (event : LinedEvent) (new : Site) (file : List ℕ) → IsSite (shape_of setup) new file (event_step (shape_of setup) (play_of setup lined).run event.event).run → IsSite (shape_of setup) new file (play_of setup (lined ++ event ∷ [])).run
-stands_more setup lined event new file held = subst (λ (played : Played). IsSite (shape_of setup) new file played.run) (sym (play_more setup lined event)) held
+pub stands_more : (setup : Setup) (lined : List LinedEvent) (event : LinedEvent) (new : Site) (seen : ℕ → List ℕ) → IsSite (shape_of setup) new seen (event_step (shape_of setup) (play_of setup lined).run event.event).run → IsSite (shape_of setup) new seen (play_of setup (lined ++ event ∷ [])).run
+stands_more setup lined event new seen held = subst (λ (played : Played). IsSite (shape_of setup) new seen played.run) (sym (play_more setup lined event)) held
 
 pub text_more : (setup : Setup) (lined : List LinedEvent) (event : LinedEvent) (outcome : Outcome) (start text : List ℕ) → outcome ≡ (event_step (shape_of setup) (play_of setup lined).run event.event).outcome → text ≡ start ++ told (play_of setup lined).outcomes →
     text ++ (outcome_line event.line outcome ++ 10 ∷ []) ≡ start ++ told (play_of setup (lined ++ event ∷ [])).outcomes
@@ -146,10 +160,10 @@ text_more setup lined event outcome start text is so_far =
     ∙ ap (λ (played : Played). told played.outcomes) (sym (play_more setup lined event)))
 
 -- where no event is left, the run is whole
-pub played_whole : (setup : Setup) (events done rest : List LinedEvent) (site : Site) (file : List ℕ) → events ≡ done ++ rest → rest ≡ [] → IsSite (shape_of setup) site file (play_of setup done).run →
-    IsSite (shape_of setup) site file (play (record { setup = setup; events = events })).run
-played_whole setup events done rest site file whole end held =
-    subst (λ (all : List LinedEvent). IsSite (shape_of setup) site file (play_of setup all).run) (sym (whole ∙ ap (λ (later : List LinedEvent). done ++ later) end ∙ append-nil done)) held
+pub played_whole : (setup : Setup) (events done rest : List LinedEvent) (site : Site) (seen : ℕ → List ℕ) → events ≡ done ++ rest → rest ≡ [] → IsSite (shape_of setup) site seen (play_of setup done).run →
+    IsSite (shape_of setup) site seen (play (record { setup = setup; events = events })).run
+played_whole setup events done rest site seen whole end held =
+    subst (λ (all : List LinedEvent). IsSite (shape_of setup) site seen (play_of setup all).run) (sym (whole ∙ ap (λ (later : List LinedEvent). done ++ later) end ∙ append-nil done)) held
 
 -- what holds of all holds of those behind the first
 all_behind : {X : Type 0} (P : X → Type 0) (xs ys : List X) → AllByRecursion P (xs ++ ys) → AllByRecursion P ys
@@ -157,34 +171,34 @@ all_behind P [] ys all = all
 all_behind P (x ∷ xs) ys all = all_behind P xs ys all.1
 
 -- the room that an event needs is there
-room_here : (script : Script) (site : Site) (file : List ℕ) (run : Progress) (event : Event) (done : List LinedEvent) → IsSite (shape_of script.setup) site file run → IsLegalEvent script.setup.tables (script.setup.a.groups * script.setup.a.replicas) event → run.drawn ≤ length done → run.opened ≤ 4294967296 + 4294967296 * length done →
-    changes_in_journal (shape_of script.setup) run.journal + changes_in_event event ≤ 400 → length done < 100000 → HasRoomFor (shape_of script.setup) site event
-room_here script site file run (events.Tx id operations) done held legal drawn opened changes few = record {
+room_here : (script : Script) (site : Site) (seen : ℕ → List ℕ) (run : Progress) (event : Event) (done : List LinedEvent) → IsSite (shape_of script.setup) site seen run → IsLegalEvent script.setup.tables (script.setup.a.groups * script.setup.a.replicas) event → run.drawn ≤ length done → run.opened ≤ 4294967296 + 4294967296 * length done →
+    changes_in_journal (shape_of script.setup) run.journal + changes_in_event event ≤ 100000 → length done < 100000 → HasRoomFor (shape_of script.setup) site event
+room_here script site seen run (events.Tx id operations) done held legal drawn opened changes few = record {
   fit = operations_fit script.setup.tables operations legal.1;
-  room = (let made = made_is (shape_of script.setup) site file run held in omega arith);
-  number = (let same = drawn_is (shape_of script.setup) site file run held in omega arith);
+  room = (let made = made_is (shape_of script.setup) site seen run held in omega arith);
+  number = (let same = drawn_is (shape_of script.setup) site seen run held in omega arith);
 }
-room_here script site file run (events.Close id gci) done held legal drawn opened changes few = let same : opened_of site ≡ run.opened = opened_is (shape_of script.setup) site file run held in omega arith
-room_here script site file run (events.Deliver id place) done held legal drawn opened changes few = tt
-room_here script site file run (events.DeliverAll id) done held legal drawn opened changes few = tt
-room_here script site file run (events.Inject id) done held legal drawn opened changes few = tt
-room_here script site file run (events.Log id) done held legal drawn opened changes few = tt
-room_here script site file run (events.Fail id node) done held legal drawn opened changes few = legal.1
-room_here script site file run (events.Restart id node) done held legal drawn opened changes few =
-    (legal.1, (let same : opened_of site ≡ run.opened = opened_is (shape_of script.setup) site file run held in omega arith))
-room_here script site file run (events.Resend id) done held legal drawn opened changes few = tt
-room_here script site file run (events.Injector id) done held legal drawn opened changes few = tt
-room_here script site file run (events.Piece id number position count) done held legal drawn opened changes few = tt
-room_here script site file run (events.Pull id) done held legal drawn opened changes few = tt
-room_here script site file run (events.Apply id) done held legal drawn opened changes few = tt
-room_here script site file run (events.Flow id) done held legal drawn opened changes few = tt
-room_here script site file run (events.Applier id) done held legal drawn opened changes few = tt
-room_here script site file run (events.Dump id) done held legal drawn opened changes few = tt
-room_here script site file run events.Drain done held legal drawn opened changes few = tt
+room_here script site seen run (events.Close id gci) done held legal drawn opened changes few = let same : opened_of site ≡ run.opened = opened_is (shape_of script.setup) site seen run held in omega arith
+room_here script site seen run (events.Deliver id place) done held legal drawn opened changes few = tt
+room_here script site seen run (events.DeliverAll id) done held legal drawn opened changes few = tt
+room_here script site seen run (events.Inject id) done held legal drawn opened changes few = tt
+room_here script site seen run (events.Log id) done held legal drawn opened changes few = tt
+room_here script site seen run (events.Fail id node) done held legal drawn opened changes few = legal.1
+room_here script site seen run (events.Restart id node) done held legal drawn opened changes few =
+    (legal.1, (let same : opened_of site ≡ run.opened = opened_is (shape_of script.setup) site seen run held in omega arith))
+room_here script site seen run (events.Resend id) done held legal drawn opened changes few = tt
+room_here script site seen run (events.Injector id) done held legal drawn opened changes few = let same : opened_of site ≡ run.opened = opened_is (shape_of script.setup) site seen run held in omega arith
+room_here script site seen run (events.Piece id number position count) done held legal drawn opened changes few = tt
+room_here script site seen run (events.Pull id) done held legal drawn opened changes few = tt
+room_here script site seen run (events.Apply id) done held legal drawn opened changes few = tt
+room_here script site seen run (events.Flow id) done held legal drawn opened changes few = tt
+room_here script site seen run (events.Applier id) done held legal drawn opened changes few = tt
+room_here script site seen run (events.Dump id) done held legal drawn opened changes few = tt
+room_here script site seen run events.Drain done held legal drawn opened changes few = tt
 
-pub room_for : (script : Script) (site : Site) (file : List ℕ) (done : List LinedEvent) (lined : LinedEvent) (rest : List LinedEvent) → IsLegal script → script.events ≡ done ++ (lined ∷ rest) → IsSite (shape_of script.setup) site file (play_of script.setup done).run → HasRoomFor (shape_of script.setup) site lined.event
+pub room_for : (script : Script) (site : Site) (seen : ℕ → List ℕ) (done : List LinedEvent) (lined : LinedEvent) (rest : List LinedEvent) → IsLegal script → script.events ≡ done ++ (lined ∷ rest) → IsSite (shape_of script.setup) site seen (play_of script.setup done).run → HasRoomFor (shape_of script.setup) site lined.event
 unfolding play_of
-room_for script site file done lined rest legal is held =
+room_for script site seen done lined rest legal is held =
     let shape = shape_of script.setup in
     let nodes : ℕ = script.setup.a.groups * script.setup.a.replicas in
     let counts = counted shape (not_played script.setup) done in
@@ -193,18 +207,14 @@ room_for script site file done lined rest legal is held =
     let changes : sum_by (λ (l : LinedEvent). changes_in_event l.event) script.events ≡ sum_by (λ (l : LinedEvent). changes_in_event l.event) done + (changes_in_event lined.event + sum_by (λ (l : LinedEvent). changes_in_event l.event) rest) =
     ap (sum_by (λ (l : LinedEvent). changes_in_event l.event)) is ∙ sum_by-append (λ (l : LinedEvent). changes_in_event l.event) done (lined ∷ rest)
     ∙ ap (λ n. sum_by (λ (l : LinedEvent). changes_in_event l.event) done + n) (sum_by-cons (λ (l : LinedEvent). changes_in_event l.event) lined rest) in
-    room_here script site file (play_of script.setup done).run lined.event done held there.0
+    room_here script site seen (play_of script.setup done).run lined.event done held there.0
     (let h = counts.drawn in omega arith) (let h = counts.opened in omega arith)
     (let h = counts.changes_are in let few = legal.few_changes in omega arith)
     (let few = legal.few_events in omega arith)
 
--- a log that was not begun, or that holds no body, is a part of any
-pub unbegun : (bodies : List EpochBody) (file : List ℕ) (fault : SiteFault) → file ≡ [] → LeavesPart bodies file fault
-unbegun bodies file fault empty = inl ([], (λ _. refl), record { room = omega arith; bytes = empty })
-
-pub part_of_any : (bodies : List EpochBody) (file : List ℕ) (fault : SiteFault) → LeavesPart [] file fault → LeavesPart bodies file fault
-part_of_any bodies file fault (inl left) = inl left
-part_of_any bodies file fault (inr left) = inr (part_of_more 0 [] bodies file fault left)
+-- a log without a body is a part of any
+pub part_of_any : (limit : ℕ) (bodies : List EpochBody) (seen : ℕ → List ℕ) → IsLogImage A limit [] seen → HoldsPart limit 0 bodies seen
+part_of_any limit bodies seen image = record { count = 0; least_are_there = omega arith; within = omega arith; image = image }
 
 -- the bodies written so far are the first of those that the script writes
 pub begins_whole : (script : Script) (played : Played) (done rest : List LinedEvent) → script.events ≡ done ++ rest → play_of script.setup done ≡ played → IsSound (shape_of script.setup) played.run → Begins (written_bodies (shape_of script.setup) played.run) (log_of script)
@@ -216,55 +226,65 @@ begins_whole script played done rest is so_far sound =
     subst (λ (p : Played). Begins (written_bodies shape played.run) (written_bodies shape p.run)) ends (goes_on shape played rest sound).grows
 
 -- a run that stopped in an event
-pub stopped_in : (script : Script) (site : Site) (before file : List ℕ) (fault : SiteFault) (done : List LinedEvent) (lined : LinedEvent) (rest : List LinedEvent) → script.events ≡ (done ++ lined ∷ []) ++ rest → IsSite (shape_of script.setup) site before (play_of script.setup done).run →
-    LeavesLog 0 (written_bodies (shape_of script.setup) (event_step (shape_of script.setup) (play_of script.setup done).run lined.event).run) file fault → LeavesPart (log_of script) file fault
-stopped_in script site before file fault done lined rest is held left =
+pub stopped_in : (script : Script) (limit : ℕ) (site : Site) (before seen : ℕ → List ℕ) (done : List LinedEvent) (lined : LinedEvent) (rest : List LinedEvent) → script.events ≡ (done ++ lined ∷ []) ++ rest → IsSite (shape_of script.setup) site before (play_of script.setup done).run →
+    HoldsPart limit 0 (written_bodies (shape_of script.setup) (event_step (shape_of script.setup) (play_of script.setup done).run lined.event).run) seen → HoldsPart limit 0 (log_of script) seen
+stopped_in script limit site before seen done lined rest is held left =
     let shape = shape_of script.setup in
     let next : Progress = (event_step shape (play_of script.setup done).run lined.event).run in
-    inr (more_of (written_bodies shape next) (log_of script) file fault
-    (begins_whole script (played_on shape (play_of script.setup done) lined) (done ++ lined ∷ []) rest is (play_more script.setup done lined) (goes shape (play_of script.setup done).run lined.event held.sound).sound) left)
+    more_of limit 0 (written_bodies shape next) (log_of script) seen
+    (begins_whole script (played_on shape (play_of script.setup done) lined) (done ++ lined ∷ []) rest is (play_more script.setup done lined) (goes shape (play_of script.setup done).run lined.event held.sound).sound) left
+
+-- the log that a site stands for
+pub log_held : (setup : Setup) (site : Site) (seen : ℕ → List ℕ) (run : Progress) → IsSite (shape_of setup) site seen run → HoldsLog A (limit_of site) (written_bodies (shape_of setup) run) seen
+log_held setup site seen run held = held.log.held
 
 -- a run that stopped behind some of its events
-pub stopped_behind : (script : Script) (site : Site) (file : List ℕ) (fault : SiteFault) (done rest : List LinedEvent) → script.events ≡ done ++ rest → IsSite (shape_of script.setup) site file (play_of script.setup done).run → LeavesPart (log_of script) file fault
-stopped_behind script site file fault done rest is held =
-    let shape = shape_of script.setup in
-    inr (least_of_fewer (play_of script.setup done).run.written 0 (log_of script) file fault (omega arith)
-    (leaves_first shape site file (play_of script.setup done).run (log_of script) fault held (begins_whole script (play_of script.setup done) done rest is refl held.sound)))
+pub stopped_behind : (script : Script) (limit : ℕ) (site : Site) (seen : ℕ → List ℕ) (done rest : List LinedEvent) → limit_of site ≡ limit → script.events ≡ done ++ rest → IsSite (shape_of script.setup) site seen (play_of script.setup done).run → HoldsPart limit 0 (log_of script) seen
+stopped_behind script limit site seen done rest same is held =
+    subst (λ (l : ℕ). HoldsPart l 0 (log_of script) seen) same
+    (whole_part (limit_of site) (written_bodies (shape_of script.setup) (play_of script.setup done).run) (log_of script) seen (begins_whole script (play_of script.setup done) done rest is refl held.sound) (log_held script.setup site seen (play_of script.setup done).run held))
 
 -- the whole of a run
-pub whole_behind : (script : Script) (site : Site) (file : List ℕ) (fault : SiteFault) → IsSite (shape_of script.setup) site file (play script).run → LeavesPart (log_of script) file fault
-whole_behind script site file fault held = stopped_behind script site file fault script.events [] (sym (append-nil script.events)) held
+pub whole_behind : (script : Script) (site : Site) (seen : ℕ → List ℕ) → limit_of site ≡ script.setup.a.limit → IsSite (shape_of script.setup) site seen (play script).run → HoldsPart script.setup.a.limit 0 (log_of script) seen
+whole_behind script site seen same held = stopped_behind script script.setup.a.limit site seen script.events [] same (sym (append-nil script.events)) held
 
-pub one_log : (script : Script) (site : Site) (file : List ℕ) → IsLegal script → IsSite (shape_of script.setup) site file (play script).run → IsLogOfScript script file
-one_log script site file legal held = ap (λ (limit : ℕ). binlog_files A limit (log_of script)) legal.limit ∙ held.log
+pub one_log : (script : Script) (site : Site) (seen : ℕ → List ℕ) → limit_of site ≡ script.setup.a.limit → IsSite (shape_of script.setup) site seen (play script).run → HoldsLogOf script seen
+one_log script site seen same held = subst (λ (limit : ℕ). HoldsLog A limit (log_of script) seen) same (log_held script.setup site seen (play script).run held)
 
-pub whole_log : (script : Script) (file : List ℕ) (fault : SiteFault) → IsLegal script → IsLogOfScript script file → LeavesPart (log_of script) file fault
-whole_log script file fault legal log =
-    inr (leaves_log 0 (log_of script) (length (log_of script)) file fault (omega arith) (omega arith)
-    (ap (λ (bodies : List EpochBody). binlog_files A default_limit bodies) (take_all (length (log_of script)) (log_of script) (omega arith))
-    ∙ ap (λ (limit : ℕ). binlog_files A limit (log_of script)) (sym legal.limit) ∙ log))
+pub whole_log : (script : Script) (seen : ℕ → List ℕ) → HoldsLogOf script seen → HoldsPart script.setup.a.limit 0 (log_of script) seen
+whole_log script seen log = whole_part script.setup.a.limit (log_of script) (log_of script) seen (begins_self (log_of script)) log
 
--- the line of a log of so many files
-abbrev pub log_text : Script → (files : ℕ) → List ℕ
-log_text script files = log_line A files (length (log_of script)) (last_epoch (log_of script)) ++ 10 ∷ []
+-- the lines of its log
+abbrev pub log_text : Script → List ℕ
+log_text script = text_of_lines (log_lines A (log_rows script.setup.a.limit (log_of script)))
 
 five : (a b c d e : List ℕ) → (((a ++ b) ++ c) ++ d) ++ e ≡ a ++ (b ++ (c ++ (d ++ e)))
 five a b c d e = simp append_assoc
 
--- the report of a run whose log is one file
-pub report_is : (script : Script) (file title text log tables end : List ℕ) → IsLogOfScript script file → title ≡ text_of_lines (codes "ndb replication report" ∷ []) →
-    text ≡ title ++ told (play script).outcomes → log ≡ text ++ log_text script 1 →
+-- the report of a run
+pub report_is : (script : Script) (title text log tables end : List ℕ) → title ≡ text_of_lines (codes "ndb replication report" ∷ []) →
+    text ≡ title ++ told (play script).outcomes → log ≡ text ++ log_text script →
     tables ≡ log ++ flat_map (λ table. text_of_lines (table_lines A table)) (tables_left script.setup.tables (play script).run.journal) →
     end ≡ tables ++ text_of_lines (codes "end" ∷ []) → end ≡ report_of script
 unfolding report_of
-report_is script file title text log tables end one title_is text_is log_is tables_is end_is =
+report_is script title text log tables end title_is text_is log_is tables_is end_is =
     let head : List ℕ = text_of_lines (codes "ndb replication report" ∷ []) in
     let lines : List ℕ = told (play script).outcomes in
     let last : List ℕ = text_of_lines (codes "end" ∷ []) in
     let rows : List ℕ = flat_map (λ table. text_of_lines (table_lines A table)) (tables_left script.setup.tables (play script).run.journal) in
     end_is ∙ ap (λ (t : List ℕ). t ++ last) tables_is ∙ ap (λ (t : List ℕ). (t ++ rows) ++ last) log_is
-    ∙ ap (λ (t : List ℕ). ((t ++ log_text script 1) ++ rows) ++ last) text_is
-    ∙ ap (λ (t : List ℕ). (((t ++ lines) ++ log_text script 1) ++ rows) ++ last) title_is
-    ∙ five head lines (log_text script 1) rows last
-    ∙ ap (λ (files : ℕ). head ++ (lines ++ (log_text script files ++ (rows ++ last)))) (sym (ap length one))
-    ∙ sym (report_pieces (play script).outcomes (counts_of script.setup.a.limit (log_of script)) (tables_left script.setup.tables (play script).run.journal))
+    ∙ ap (λ (t : List ℕ). ((t ++ log_text script) ++ rows) ++ last) text_is
+    ∙ ap (λ (t : List ℕ). (((t ++ lines) ++ log_text script) ++ rows) ++ last) title_is
+    ∙ five head lines (log_text script) rows last
+    ∙ sym (report_pieces (play script).outcomes (log_rows script.setup.a.limit (log_of script)) (tables_left script.setup.tables (play script).run.journal))
+
+-- the lines of the log that a site stands for
+pub log_put : (shape : Shape) (site : Site) (seen : ℕ → List ℕ) (run : Progress) (files : ℕ) (rows : List IndexRow) (old new text : List ℕ) → IsSite shape site seen run → new ≡ old ++ text → text ≡ text_of_lines (log_lines A (record { files = files; rows = rows })) →
+    files ≡ length (binlog_files shape.site (limit_of site) (written_bodies shape run)) → rows ≡ index_rows shape.site (limit_of site) (written_bodies shape run) →
+    new ≡ old ++ text_of_lines (log_lines A (log_rows (limit_of site) (written_bodies shape run)))
+log_put shape site seen run files rows old new text held put lines files_are rows_are =
+    let bodies = written_bodies shape run in
+    put ∙ ap (λ (t : List ℕ). old ++ t)
+    (lines ∙ ap₂ (λ (n : ℕ) (r : List IndexRow). text_of_lines (log_lines A (record { files = n; rows = r })))
+    (files_are ∙ ap (λ (id : SiteId). length (binlog_files id (limit_of site) bodies)) held.declared.primary)
+    (rows_are ∙ ap (λ (id : SiteId). index_rows id (limit_of site) bodies) held.declared.primary))

@@ -1,8 +1,8 @@
 -- What the program's call says, from what its parts say.
-use Rattle.std.proofs.Common.{◌≡◌, ◌<◌, ℕ, List, [], length, ◌++◌, refl, sym, ap, subst, ◌∙◌, ◌⊎◌, arith, inl, inr}
+use Rattle.std.proofs.Common.{◌≡◌, ◌<◌, ℕ, List, [], length, ◌++◌, ◌≤◌, refl, sym, ap, ap₂, subst, ◌∙◌, ◌⊎◌, arith, inl, inr}
 use Rattle.std.specs.Prelude.{Option, Some, None, IfSome, Result, Ok, Err}
 use Rattle.std.specs.Io.KnownBytes.{Consumes, Appends, Keeps, IsAtEnd}
-use Rattle.std.proofs.lemmas.Bool.{lt-ltb}
+use Rattle.std.proofs.lemmas.Bool.{lt-ltb, cases_lt}
 use Rattle.std.proofs.lemmas.List.{append-nil}
 use Rattle.rb_io.specs.Prefix.{GrowsByPrefix}
 use Rattle.rb_text_defs.specs.declared.script.Script.{Script}
@@ -11,18 +11,17 @@ use Rattle.rb_text_defs.specs.declared.script.ScriptKind.{ScriptKind}
 use Rattle.rb_text_defs.specs.declared.script.ScriptKind.TheVariants as kinds
 use Rattle.rb_text_defs.specs.declared.script.Limit.TheVariants as limits
 use Rattle.rb_text_defs.specs.Script.{most_bytes, bad_line, script_of}
-use Rattle.rb_text_defs.specs.Legal.{IsLegal}
-use Rattle.rb_play_defs.specs.Play.{log_of, report_of}
+use Rattle.rb_play_defs.specs.Play.{log_of, report_of, HoldsLogOf}
 use Rattle.rb_script.specs.Refused.{IfBad}
 use Rattle.rb_script.specs.declared.fault.ParseFault.{ParseFault}
 use Rattle.rb_script.specs.declared.fault.ParseFault.TheVariants as parsing
-use Rattle.rb_site.specs.Fault.{LeavesPart}
-use Rattle.rb_site.specs.declared.fault.SiteFault.{SiteFault}
-use Rattle.rb_site.specs.declared.fault.SiteFault.TheVariants as faults
+use Rattle.rb_base.specs.declared.site.SiteId.{SiteId}
+use Rattle.rb_base.specs.declared.site.SiteId.TheVariants.{A, B}
+use Rattle.rb_disk.specs.Disk.{IsLowestFile}
+use Rattle.rb_play_defs.specs.Part.{HoldsPart}
 use Rattle.rb_top.proofs.Running.{whole_log}
 use Rattle.rb_top.specs.declared.status.Status.{Status}
-use Rattle.rb_top.specs.Run.{IsLogOfScript}
-use Rattle.rb_top.specs.Program.{IsReadFrom, IsDiskFault, HasStopped}
+use Rattle.rb_top.specs.Program.{IsReadFrom, IsDiskFault, HasStopped, AreEmpty, IsFirstHeld}
 use Rattle.rb_top.specs.declared.status.Status.TheVariants as statuses
 
 -- a text of too many bytes is refused as a whole
@@ -93,18 +92,41 @@ nothing_printed : (held : Option (List ℕ)) (report : List ℕ) → GrowsByPref
 nothing_printed held report = (0, omega arith, appends_nothing held)
 
 -- a run that stopped, by what it left of the log
-pub stopped : (left_old left_new held_old held_new : Option (List ℕ)) (file : List ℕ) (script : Script) (status : Status) (fault : SiteFault) → IsReadFrom left_old script → IsAtEnd left_new → GrowsByPrefix held_old held_new (report_of script) → (status ≡ statuses.NoMemory → fault ≡ faults.NoMemory) → (IsDiskFault status → Keeps held_old held_new) → (status ≡ statuses.WriteFault → IsLogOfScript script file) → (Keeps held_old held_new ⊎ IsLogOfScript script file) → LeavesPart (log_of script) file fault → HasStopped left_old left_new held_old held_new file status
-stopped left_old left_new held_old held_new file script status fault read end report tears silent whole printed (inl (torn, torn_by, part)) =
-    record { script = script; read = read; end = end; report = report; torn = torn; log = inl part; tears = λ same. torn_by (tears same); silent = silent; printed = printed; whole = whole }
-stopped left_old left_new held_old held_new file script status fault read end report tears silent whole printed (inr (torn, torn_by, part)) =
-    record { script = script; read = read; end = end; report = report; torn = torn; log = inr part; tears = λ same. torn_by (tears same); silent = silent; printed = printed; whole = whole }
+pub stopped : (left_old left_new held_old held_new : Option (List ℕ)) (seen : ℕ → List ℕ) (script : Script) (status : Status) → IsReadFrom left_old script → IsAtEnd left_new → GrowsByPrefix held_old held_new (report_of script) → (IsDiskFault status → Keeps held_old held_new) → (status ≡ statuses.WriteFault → HoldsLogOf script seen) → (Keeps held_old held_new ⊎ HoldsLogOf script seen) → HoldsPart script.setup.a.limit 0 (log_of script) seen → HasStopped left_old left_new held_old held_new seen status
+stopped left_old left_new held_old held_new seen script status read end report silent whole printed part =
+    record { script = script; read = read; end = end; report = report; log = part; silent = silent; printed = printed; whole = whole }
 
 -- by a fault of the device, or want of memory within the run: nothing was printed
-pub stopped_running : (left_old left_new held : Option (List ℕ)) (file : List ℕ) (script : Script) (fault : SiteFault) (status : Status) → (status ≡ statuses.NoMemory → fault ≡ faults.NoMemory) → (status ≡ statuses.WriteFault → ⊥) → IsReadFrom left_old script → IsAtEnd left_new → LeavesPart (log_of script) file fault → HasStopped left_old left_new held held file status
-stopped_running left_old left_new held file script fault status tears not_printing read end left =
-    stopped left_old left_new held held file script status fault read end (nothing_printed held (report_of script)) tears (λ _. keeps_self held) (λ same. absurd (not_printing same)) (inl (keeps_self held)) left
+pub stopped_running : (left_old left_new held : Option (List ℕ)) (seen : ℕ → List ℕ) (script : Script) (status : Status) → (status ≡ statuses.WriteFault → ⊥) → IsReadFrom left_old script → IsAtEnd left_new → HoldsPart script.setup.a.limit 0 (log_of script) seen → HasStopped left_old left_new held held seen status
+stopped_running left_old left_new held seen script status not_printing read end left =
+    stopped left_old left_new held held seen script status read end (nothing_printed held (report_of script)) (λ _. keeps_self held) (λ same. absurd (not_printing same)) (inl (keeps_self held)) left
 
 -- within the printing: the log is whole
-pub stopped_printing : (left_old left_new held_old held_new : Option (List ℕ)) (file : List ℕ) (script : Script) (status : Status) → IsLegal script → (IsDiskFault status → ⊥) → IsReadFrom left_old script → IsAtEnd left_new → GrowsByPrefix held_old held_new (report_of script) → IsLogOfScript script file → HasStopped left_old left_new held_old held_new file status
-stopped_printing left_old left_new held_old held_new file script status legal not_disk read end report log =
-    stopped left_old left_new held_old held_new file script status faults.NoMemory read end report (λ _. refl) (λ disk. absurd (not_disk disk)) (λ _. log) (inr log) (whole_log script file faults.NoMemory legal log)
+pub stopped_printing : (left_old left_new held_old held_new : Option (List ℕ)) (seen : ℕ → List ℕ) (script : Script) (status : Status) → (IsDiskFault status → ⊥) → IsReadFrom left_old script → IsAtEnd left_new → GrowsByPrefix held_old held_new (report_of script) → HoldsLogOf script seen → HasStopped left_old left_new held_old held_new seen status
+stopped_printing left_old left_new held_old held_new seen script status not_disk read end report log =
+    stopped left_old left_new held_old held_new seen script status read end report (λ disk. absurd (not_disk disk)) (λ _. log) (inr log) (whole_log script seen log)
+
+-- a device has one lowest file that is not empty
+lowest_is : (file other size length_of : ℕ) (seen : ℕ → List ℕ) → IsLowestFile file size seen → IsLowestFile other length_of seen → (file ≡ other) × (size ≡ length_of)
+lowest_is file other size length_of seen one two = go (cases_lt file other) (cases_lt other file)
+  where
+    go : (file < other) ⊎ (other ≤ file) → (other < file) ⊎ (file ≤ other) → (file ≡ other) × (size ≡ length_of)
+    go (inl below) after = absurd (omega (arith, ap length (two.lower file below), one.there, one.some))
+    go (inr above) (inl below) = absurd (omega (arith, ap length (one.lower other below), two.there, two.some))
+    go (inr above) (inr under) = let same : file ≡ other = omega arith in (same, sym one.there ∙ ap (λ (f : ℕ). length (seen f)) same ∙ two.there)
+
+-- no file of an empty device is the lowest that is not empty
+pub none_lowest : (file size : ℕ) (seen : ℕ → List ℕ) → ((other : ℕ) → seen other ≡ []) → IsLowestFile file size seen → ⊥
+none_lowest file size seen empty held = omega (arith, ap length (empty file), held.there, held.some)
+
+-- two devices have one first file that is not empty
+pub first_is : (site other : SiteId) (file number size length_of : ℕ) (seen_a seen_b : ℕ → List ℕ) → IsFirstHeld site file size seen_a seen_b → IsFirstHeld other number length_of seen_a seen_b → statuses.NotEmpty site file size ≡ statuses.NotEmpty other number length_of
+first_is A A file number size length_of seen_a seen_b one two = let same = lowest_is file number size length_of seen_a one two in ap₂ (λ (f n : ℕ). statuses.NotEmpty A f n) same.0 same.1
+first_is A B file number size length_of seen_a seen_b one two = absurd (none_lowest file size seen_a two.0 one)
+first_is B A file number size length_of seen_a seen_b one two = absurd (none_lowest number length_of seen_a one.0 two)
+first_is B B file number size length_of seen_a seen_b one two = let same = lowest_is file number size length_of seen_b one.1 two.1 in ap₂ (λ (f n : ℕ). statuses.NotEmpty B f n) same.0 same.1
+
+-- and two empty devices none
+pub none_first : (site : SiteId) (file size : ℕ) (seen_a seen_b : ℕ → List ℕ) → AreEmpty seen_a seen_b → IsFirstHeld site file size seen_a seen_b → ⊥
+none_first A file size seen_a seen_b empty held = none_lowest file size seen_a empty.0 held
+none_first B file size seen_a seen_b empty held = none_lowest file size seen_b empty.1 held.1

@@ -5,9 +5,11 @@ use Rattle.std.specs.Io.KnownBytes.{Appends, Keeps, IsAtEnd}
 use Rattle.rb_io.specs.Prefix.{GrowsByPrefix}
 use Rattle.rb_text_defs.specs.declared.script.Script.{Script}
 use Rattle.rb_text_defs.specs.Script.{script_of}
-use Rattle.rb_play_defs.specs.Play.{log_of, report_of}
-use Rattle.rb_play_defs.specs.Part.{HoldsPart, IsUnbegun}
-use Rattle.rb_top.specs.Run.{IsLogOfScript}
+use Rattle.rb_base.specs.declared.site.SiteId.{SiteId}
+use Rattle.rb_base.specs.declared.site.SiteId.TheVariants.{A, B}
+use Rattle.rb_disk.specs.Disk.{IsLowestFile}
+use Rattle.rb_play_defs.specs.Play.{log_of, report_of, HoldsLogOf}
+use Rattle.rb_play_defs.specs.Part.{HoldsPart}
 use Rattle.rb_top.specs.declared.status.Status.{Status}
 use Rattle.rb_top.specs.declared.status.Status.TheVariants as statuses
 
@@ -26,9 +28,24 @@ abbrev pub IsDiskFault : Status → Type 0
 IsDiskFault (statuses.DiskFault site) = Unit {0}
 IsDiskFault status = ⊥
 
+-- a device is not empty
+abbrev pub IsNotEmpty : Status → Type 0
+IsNotEmpty (statuses.NotEmpty site file size) = Unit {0}
+IsNotEmpty status = ⊥
+
+-- both devices are empty
+abbrev pub AreEmpty : (seen_a seen_b : ℕ → List ℕ) → Type 0
+AreEmpty seen_a seen_b = ((file : ℕ) → seen_a file ≡ []) × ((file : ℕ) → seen_b file ≡ [])
+
+-- the first file that is not empty, site A before site B and the lowest first, is this one of this site, and it has this length
+abbrev pub IsFirstHeld : SiteId → (file size : ℕ) → (seen_a seen_b : ℕ → List ℕ) → Type 0
+IsFirstHeld A file size seen_a seen_b = IsLowestFile file size seen_a
+IsFirstHeld B file size seen_a seen_b = ((other : ℕ) → seen_a other ≡ []) × IsLowestFile file size seen_b
+
 -- the run was never begun
 abbrev pub IsBeforeRun : Status → Type 0
 IsBeforeRun statuses.Usage = Unit {0}
+IsBeforeRun (statuses.NotEmpty site file size) = Unit {0}
 IsBeforeRun (statuses.BadScript line kind) = Unit {0}
 IsBeforeRun statuses.ReadFault = Unit {0}
 IsBeforeRun status = ⊥
@@ -64,28 +81,26 @@ IsReadingFault status = ⊥
 abbrev pub IsReadFrom : Option (List ℕ) → Script → Type 0
 IsReadFrom left script = IfSome left (λ bytes. script_of bytes ≡ Ok script)
 
--- the whole of a script was read and run: the report was appended to the sink, and the file is the log
-pub record HasRun (left_old left_new held_old held_new : Option (List ℕ)) (file : List ℕ) : Type 0 where
+-- the whole of a script was read and run: the report was appended to the sink, and the device holds the log, whole
+pub record HasRun (left_old left_new held_old held_new : Option (List ℕ)) (seen : ℕ → List ℕ) : Type 0 where
   pub script : Script
   pub read : IsReadFrom left_old script
   pub end : IsAtEnd left_new
   pub report : Appends held_old held_new (report_of script)
-  pub log : IsLogOfScript script file
+  pub log : HoldsLogOf script seen
 
 -- the run of a script was begun, and stopped with this status: the script was read to its end, the sink has a front of the
--- report, the file holds a part of the log; torn bytes stand behind it only after a fault of the device, which comes before
--- anything is printed; nothing is printed before the log is whole; at a fault of the sink the log is whole
-pub record HasStopped (left_old left_new held_old held_new : Option (List ℕ)) (file : List ℕ) (status : Status) : Type 0 where
+-- report, and the device can be opened again with the log of the first so many epochs; nothing is printed at a fault of the device,
+-- nor before the log is whole; at a fault of the sink it is
+pub record HasStopped (left_old left_new held_old held_new : Option (List ℕ)) (seen : ℕ → List ℕ) (status : Status) : Type 0 where
   pub script : Script
   pub read : IsReadFrom left_old script
   pub end : IsAtEnd left_new
   pub report : GrowsByPrefix held_old held_new (report_of script)
-  pub torn : List ℕ
-  pub log : IsUnbegun torn file ⊎ HoldsPart 0 (log_of script) torn file
-  pub tears : status ≡ statuses.NoMemory → torn ≡ []
+  pub log : HoldsPart script.setup.a.limit 0 (log_of script) seen
   pub silent : IsDiskFault status → Keeps held_old held_new
-  pub printed : Keeps held_old held_new ⊎ IsLogOfScript script file
-  pub whole : status ≡ statuses.WriteFault → IsLogOfScript script file
+  pub printed : Keeps held_old held_new ⊎ HoldsLogOf script seen
+  pub whole : status ≡ statuses.WriteFault → HoldsLogOf script seen
 
 -- the sink and the files of site A's device are as they were; the source may have been read
 pub record IsUntouched (held_old held_new : Option (List ℕ)) (files_old files_new : ℕ → List ℕ) : Type 0 where

@@ -6,19 +6,14 @@ use Rattle.rb_base.specs.declared.script.Event.TheVariants as events
 use Rattle.rb_base.specs.declared.outcome.Outcome.{Outcome}
 use Rattle.rb_base.specs.declared.outcome.Outcome.TheVariants as outcomes
 use Rattle.rb_journal_defs.specs.Body.{Shape}
-use Rattle.rb_text_defs.specs.declared.script.Script.{Script}
 use Rattle.rb_text_defs.specs.Report.{outcome_line}
 use Rattle.rb_play_defs.specs.Step.{Progress, Stepped, unchanged, site_step}
-use Rattle.rb_play_defs.specs.Play.{files_of, log_step}
+use Rattle.rb_play_defs.specs.Play.{log_step}
 use Rattle.rb_play_defs.specs.declared.event.SiteEvent.TheVariants as happenings
 use Rattle.rb_site.specs.declared.site.Site.{Site}
 use Rattle.rb_site.specs.Site.{IsSite, EventFits}
 use Rattle.rb_top.specs.declared.play.Turn.{Turn}
 use Rattle.rb_top.specs.declared.play.Turn.TheVariants as turns
-
--- this one file is the log that the script's run leaves
-abbrev pub IsLogOfScript : Script → (file : List ℕ) → Type 0
-IsLogOfScript script file = files_of script ≡ file ∷ []
 
 -- what an event of a script is for the site
 abbrev pub turn_of : Event → Turn
@@ -30,6 +25,7 @@ turn_of (events.Inject id) = turns.Step happenings.Inject
 turn_of (events.Fail id node) = turns.Step (happenings.Fail node)
 turn_of (events.Restart id node) = turns.Step (happenings.Restart node)
 turn_of (events.Resend id) = turns.Step happenings.Resend
+turn_of (events.Injector id) = turns.Step happenings.Injector
 turn_of (events.Log id) = turns.Log
 turn_of event = turns.Idle
 
@@ -49,9 +45,9 @@ HasRoomForTurn shape site turns.Idle = Unit {0}
 abbrev pub HasRoomFor : Shape → Site → Event → Type 0
 HasRoomFor shape site event = HasRoomForTurn shape site (turn_of event)
 
--- a site over its log file that can play an event
-abbrev pub CanPlay : Site → (file : List ℕ) → Event → Type 0
-CanPlay site file event = (shape : Shape) × (run : Progress) × IsSite shape site file run × HasRoomFor shape site event
+-- a site over its device that can play an event
+abbrev pub CanPlay : Site → (seen : ℕ → List ℕ) → Event → Type 0
+CanPlay site seen event = (shape : Shape) × (run : Progress) × IsSite shape site seen run × HasRoomFor shape site event
 
 -- the answer to `log`, from those to the delivery of all messages and to the injector's turn
 abbrev pub joined : Outcome → Outcome → Outcome

@@ -6,6 +6,7 @@
 #![tactic(auto)]
 
 mod fault;
+mod held;
 mod play;
 mod program;
 mod read;

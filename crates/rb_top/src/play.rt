@@ -1,18 +1,22 @@
-ghost use Rattle.std.specs.Prelude.{◌≡◌, ◌≢◌, ℕ, ◌<◌, ◌++◌, ◌∷◌, [], IfOk, IfErr, OnOk};
+ghost use Rattle.std.specs.Prelude.{◌≡◌, ℕ, ◌<◌, ◌*◌, ◌^◌, ◌++◌, ◌∷◌, [], length, IfOk, OnOk, OnErr};
+ghost use Rattle.rb_base.specs.declared.site.SiteId.TheVariants.{A};
+ghost use Rattle.rb_device_defs.specs.Image.{IsLogImage};
+ghost use Rattle.rb_inject.specs.Injector.{IsLimit};
 ghost use Rattle.rb_journal_defs.specs.Body.{Shape};
 ghost use Rattle.rb_text_defs.specs.Legal.{IsLegal};
 ghost use Rattle.rb_text_defs.specs.Report.{outcome_line};
-ghost use Rattle.rb_play_defs.specs.Step.{Progress, written_bodies};
+ghost use Rattle.rb_play_defs.specs.Step.{Progress, beginning, site_step, written_bodies};
 ghost use Rattle.rb_play_defs.specs.Play.{shape_of, log_step, event_step, play, log_of};
-ghost use Rattle.rb_site.specs.Fault.{HasDiskCause, LeavesLog, LeavesPart};
-ghost use Rattle.rb_site.specs.Site.{IsSite};
+ghost use Rattle.rb_play_defs.specs.Part.{HoldsPart};
+ghost use Rattle.rb_disk.specs.Fault.{HasDiskCause};
+ghost use Rattle.rb_site.specs.Site.{IsSite, CanTake, EventFits, AreDeclared, limit_of, shape_of as site_shape};
 ghost use Rattle.rb_top.specs.Run.{CanPlay, HasRoomFor, joined, told, turn_of};
 
 use rb_base::{Event, NoMemory, Outcome, Setup};
-use rb_disk::LogDisk;
+use rb_disk::{DiskLogFault, LogDisk};
 use rb_print::print_outcome;
 use rb_script::LinedEvents;
-use rb_site::{Site, SiteEvent, SiteFault};
+use rb_site::{InjectFault, Site, SiteEvent, Stepped};
 use std::alloc::Global;
 
 /// What an event of a script is for the site.
@@ -26,36 +30,52 @@ pub(crate) enum Turn {
     Idle,
 }
 
-/// Plays the events of a script in turn at a new site, whose log file is empty, and appends a line for each that tells what
-/// it did.
+/// Plays the events of a script in turn at a new site, whose device is empty, and appends a line for each that tells what it
+/// did.
 pub(crate) fn play<D: LogDisk>(
     alloc: Global,
     setup: &Setup,
     events: LinedEvents,
     text: &mut Vec<u8>,
     disk: &mut D,
-) -> Result<Site, SiteFault>
+) -> Result<Site, DiskLogFault>
     requires legal { IsLegal (record { setup = setup.now; events = events }) }
-    requires empty { D.seen disk.old 1 ≡ [] }
-    ensures played { IfOk result (λ site. IsSite (shape_of setup.now) site (D.seen disk.new 1) (play (record { setup = setup.now; events = events })).run) }
+    requires empty { (file : ℕ) → D.seen disk.old file ≡ [] }
+    ensures played { IfOk result (λ site. IsSite (shape_of setup.now) site (D.seen disk.new) (play (record { setup = setup.now; events = events })).run) }
+    ensures limit { IfOk result (λ site. limit_of site ≡ setup.now.a.limit) }
     ensures told { OnOk result (text.new.items ≡ text.old.items ++ told (play (record { setup = setup.now; events = events })).outcomes) }
-    ensures stopped { IfErr result (LeavesPart (log_of (record { setup = setup.now; events = events })) (D.seen disk.new 1)) }
-    ensures others { (other : ℕ) → other ≢ 1 → D.seen disk.new other ≡ D.seen disk.old other }
+    ensures stopped { OnErr result (HoldsPart setup.now.a.limit 0 (log_of (record { setup = setup.now; events = events })) (D.seen disk.new)) }
     ensures cause { HasDiskCause (D.fault_count disk.old) (D.fault_count disk.new) result }
 {
-    let mut site = Site::create(
-        alloc,
-        setup.tables.as_slice(),
-        setup.a.groups,
-        setup.a.replicas,
-        disk,
-    )?;
+    let mut site = begin(alloc, setup, disk)?;
     for lined in events.into_vec() {
         let (after, outcome) = play_event(site, lined.event, disk)?;
         site = after;
         tell(alloc, text, lined.line, outcome)?;
     }
     Ok(site)
+}
+
+// Site A of a script at its start, over an empty device.
+fn begin<D: LogDisk>(alloc: Global, setup: &Setup, disk: &mut D) -> Result<Site, DiskLogFault>
+    requires declared { AreDeclared (site_shape setup.now.tables setup.now.a.groups setup.now.a.replicas) }
+    requires some { 0 < setup.now.a.groups * setup.now.a.replicas }
+    requires few { setup.now.a.groups * setup.now.a.replicas < 2 ^ 32 }
+    requires tables { length setup.now.tables < 2 ^ 16 }
+    requires limit { IsLimit setup.now.a.limit }
+    requires empty { (file : ℕ) → D.seen disk.old file ≡ [] }
+    ensures begun { IfOk result (λ site. IsSite (site_shape setup.now.tables setup.now.a.groups setup.now.a.replicas) site (D.seen disk.new) (beginning setup.now.a.groups setup.now.a.replicas)) }
+    ensures limit { IfOk result (λ site. limit_of site ≡ setup.now.a.limit) }
+    ensures stopped { OnErr result (IsLogImage A setup.now.a.limit [] (D.seen disk.new)) }
+    ensures cause { HasDiskCause (D.fault_count disk.old) (D.fault_count disk.new) result }
+{
+    match Site::create(alloc, setup.tables.as_slice(), setup.a, disk) {
+        Ok(site) => Ok(site),
+        Err(InjectFault::DiskFault) => Err(DiskLogFault::DiskFault),
+        Err(InjectFault::NoMemory) => Err(DiskLogFault::NoMemory),
+        Err(InjectFault::NotEmpty { .. }) => unreachable!(),
+        Err(InjectFault::TooLarge(_)) => unreachable!(),
+    }
 }
 
 // Appends the line that tells what an event did.
@@ -72,17 +92,17 @@ fn play_event<D: LogDisk>(
     site: Site,
     event: Event,
     disk: &mut D,
-) -> Result<(Site, Outcome), SiteFault>
-    requires room { CanPlay site (D.seen disk.old 1) event }
-    ensures played { IfOk result (λ pair. (shape : Shape) (run : Progress) → IsSite shape site (D.seen disk.old 1) run → HasRoomFor shape site event →
-        IsSite shape pair.0 (D.seen disk.new 1) (event_step shape run event).run × (pair.1 ≡ (event_step shape run event).outcome)) }
-    ensures stopped { IfErr result (λ fault. (shape : Shape) (run : Progress) → IsSite shape site (D.seen disk.old 1) run →
-        LeavesLog 0 (written_bodies shape (event_step shape run event).run) (D.seen disk.new 1) fault) }
-    ensures others { (other : ℕ) → other ≢ 1 → D.seen disk.new other ≡ D.seen disk.old other }
+) -> Result<(Site, Outcome), DiskLogFault>
+    requires room { CanPlay site (D.seen disk.old) event }
+    ensures played { IfOk result (λ pair. (shape : Shape) (run : Progress) → IsSite shape site (D.seen disk.old) run → HasRoomFor shape site event →
+        IsSite shape pair.0 (D.seen disk.new) (event_step shape run event).run × (pair.1 ≡ (event_step shape run event).outcome)) }
+    ensures limit { IfOk result (λ pair. limit_of pair.0 ≡ limit_of site) }
+    ensures stopped { OnErr result ((shape : Shape) (run : Progress) → IsSite shape site (D.seen disk.old) run →
+        HoldsPart (limit_of site) 0 (written_bodies shape (event_step shape run event).run) (D.seen disk.new)) }
     ensures cause { HasDiskCause (D.fault_count disk.old) (D.fault_count disk.new) result }
 {
     match turn_of(event) {
-        Turn::Step(event) => site.step(&event, disk),
+        Turn::Step(event) => step(site, &event, disk),
         Turn::Log => log(site, disk),
         Turn::Idle => Ok((site, Outcome::Nothing)),
     }
@@ -101,23 +121,45 @@ fn turn_of(event: Event) -> Turn
         Event::Fail(_, node) => Turn::Step(SiteEvent::Fail(node)),
         Event::Restart(_, node) => Turn::Step(SiteEvent::Restart(node)),
         Event::Resend(_) => Turn::Step(SiteEvent::Resend),
+        Event::Injector(_) => Turn::Step(SiteEvent::Injector),
         Event::Log(_) => Turn::Log,
         _ => Turn::Idle,
     }
 }
 
-// Every message that waits is delivered, and then the injector has its turn.
-fn log<D: LogDisk>(site: Site, disk: &mut D) -> Result<(Site, Outcome), SiteFault>
-    requires stands { (shape : Shape) × (run : Progress) × IsSite shape site (D.seen disk.old 1) run }
-    ensures played { IfOk result (λ pair. (shape : Shape) (run : Progress) → IsSite shape site (D.seen disk.old 1) run →
-        IsSite shape pair.0 (D.seen disk.new 1) (log_step shape run).run × (pair.1 ≡ (log_step shape run).outcome)) }
-    ensures stopped { IfErr result (λ fault. (shape : Shape) (run : Progress) → IsSite shape site (D.seen disk.old 1) run →
-        LeavesLog 0 (written_bodies shape (log_step shape run).run) (D.seen disk.new 1) fault) }
-    ensures others { (other : ℕ) → other ≢ 1 → D.seen disk.new other ≡ D.seen disk.old other }
+// One event of the site, and its answer. A site that stopped is given up, since nothing comes behind a fault.
+fn step<D: LogDisk>(
+    site: Site,
+    event: &SiteEvent,
+    disk: &mut D,
+) -> Result<(Site, Outcome), DiskLogFault>
+    requires fits { CanTake site (D.seen disk.old) event.now }
+    ensures stepped { IfOk result (λ pair. (shape : Shape) (run : Progress) → IsSite shape site (D.seen disk.old) run → EventFits shape site event.now →
+        IsSite shape pair.0 (D.seen disk.new) (site_step shape run event.now).run × (pair.1 ≡ (site_step shape run event.now).outcome)) }
+    ensures limit { IfOk result (λ pair. limit_of pair.0 ≡ limit_of site) }
+    ensures stopped { OnErr result ((shape : Shape) (run : Progress) → IsSite shape site (D.seen disk.old) run →
+        HoldsPart (limit_of site) run.written (written_bodies shape (site_step shape run event.now).run) (D.seen disk.new)) }
     ensures cause { HasDiskCause (D.fault_count disk.old) (D.fault_count disk.new) result }
 {
-    let (site, delivered) = site.step(&SiteEvent::DeliverAll, disk)?;
-    let (site, wrote) = site.step(&SiteEvent::Inject, disk)?;
+    match site.step(event, disk) {
+        Stepped::On(site, outcome) => Ok((site, outcome)),
+        Stepped::Stopped(_) => Err(DiskLogFault::DiskFault),
+        Stepped::NoMemory => Err(DiskLogFault::NoMemory),
+    }
+}
+
+// Every message that waits is delivered, and then the injector has its turn.
+fn log<D: LogDisk>(site: Site, disk: &mut D) -> Result<(Site, Outcome), DiskLogFault>
+    requires stands { (shape : Shape) × (run : Progress) × IsSite shape site (D.seen disk.old) run }
+    ensures played { IfOk result (λ pair. (shape : Shape) (run : Progress) → IsSite shape site (D.seen disk.old) run →
+        IsSite shape pair.0 (D.seen disk.new) (log_step shape run).run × (pair.1 ≡ (log_step shape run).outcome)) }
+    ensures limit { IfOk result (λ pair. limit_of pair.0 ≡ limit_of site) }
+    ensures stopped { OnErr result ((shape : Shape) (run : Progress) → IsSite shape site (D.seen disk.old) run →
+        HoldsPart (limit_of site) 0 (written_bodies shape (log_step shape run).run) (D.seen disk.new)) }
+    ensures cause { HasDiskCause (D.fault_count disk.old) (D.fault_count disk.new) result }
+{
+    let (site, delivered) = step(site, &SiteEvent::DeliverAll, disk)?;
+    let (site, wrote) = step(site, &SiteEvent::Inject, disk)?;
     Ok((site, logged(delivered, wrote)))
 }
 

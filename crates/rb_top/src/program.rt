@@ -1,28 +1,27 @@
-ghost use Rattle.std.specs.Prelude.{◌≡◌, ◌≢◌, ◌↔◌, ◌⊎◌, ℕ, List, [], Option, Some, None, Ok, Err, true, false, IfSome};
+ghost use Rattle.std.specs.Prelude.{◌≡◌, ◌↔◌, ◌⊎◌, ℕ, List, [], Option, Some, None, Ok, Err, true, false, IfSome};
 ghost use Rattle.rb_base.specs.Faults.{Rose};
 ghost use Rattle.rb_text_defs.specs.declared.script.BadLine.{BadLine};
 ghost use Rattle.rb_text_defs.specs.declared.script.Script.{Script};
 ghost use Rattle.rb_text_defs.specs.Script.{script_of};
-ghost use Rattle.rb_top.specs.Program.{are_run, are_read, IsBadLog, IsDiskFault, IsBeforeRun, IsRunFault, IsReadingEnd, IsReadingFault, HasRun, HasStopped, IsUntouched};
+ghost use Rattle.rb_top.specs.Program.{are_run, are_read, AreEmpty, IsFirstHeld, IsNotEmpty, IsBadLog, IsDiskFault, IsBeforeRun, IsRunFault, IsReadingEnd, IsReadingFault, HasRun, HasStopped, IsUntouched};
 ghost use Rattle.rb_top.specs.ReadLog.{most_log_bytes, bad_event_of, HasReadLog, HasMetBadEvent, HasReadPart};
 
 use crate::fault::ReadLogFault;
+use crate::held::{HeldFile, first_held};
 use crate::read::read_log;
 use crate::run::run;
 use crate::status::Status;
 use crate::words::{are_read_words, are_run_words};
 use rb_base::{Bytes, Field, OutFault, SiteId};
-use rb_disk::LogDisk;
+use rb_disk::{DiskLogFault, LogDisk};
 use rb_io::{ReadAllFault, Sink, Source, read_all, write_all};
 use rb_script::{Limit, MOST_SCRIPT_BYTES, ParseFault, ScriptKind, parse};
-use rb_site::SiteFault;
 use std::alloc::Global;
 use std::thread::Threads;
 
-/// Runs the program. The one word `run` reads the script from the source, runs it over site A, whose log goes to file 1
-/// of its device, and writes the report to the sink. Both devices are empty at the start. Only the source's bytes, the
-/// sink's, and file 1 of site A's device change. The one word `read` reads a log from the source and writes its text to
-/// the sink, and changes no device.
+/// Runs the program. The one word `run` looks whether both devices are empty, reads the script from the source, runs it over
+/// site A, whose log goes to its device, the index to file 0 and the binlog to the files from 1 on, and writes the report to the
+/// sink. The one word `read` reads a log from the source and writes its text to the sink, and changes no device.
 pub fn top<R: Threads + Sync, I: Source, O: Sink, D: LogDisk>(
     _rt: &R,
     alloc: Global,
@@ -30,20 +29,17 @@ pub fn top<R: Threads + Sync, I: Source, O: Sink, D: LogDisk>(
     script: &mut I,
     out: &mut O,
     disk_a: &mut D,
-    _disk_b: &mut D,
+    disk_b: &mut D,
 ) -> Status
-    requires a_is_empty { (file : ℕ) → D.seen disk_a.old file ≡ [] }
-    requires b_is_empty { (file : ℕ) → D.seen _disk_b.old file ≡ [] }
-
-    // The headline: at Done the script was read to its end, the sink grew by its report, and file 1 of site A is the binlog
-    // file of the epochs that its injector took and that have something to log.
+    // The headline: at Done the script was read to its end, the sink grew by its report, and site A's device holds exactly the
+    // log of the epochs that its injector took and that have something to log: the binlog files, and the index.
     ensures run_meets_headline { are_run words.now ≡ true → result ≡ Status.Done →
-        HasRun (I.left script.old) (I.left script.new) (O.held out.old) (O.held out.new) (D.seen disk_a.new 1) }
-    ensures no_other_file_changes { (file : ℕ) → file ≢ 1 → D.seen disk_a.new file ≡ D.seen disk_a.old file }
-    ensures site_b_is_untouched { _disk_b.new ≡ _disk_b.old }
+        HasRun (I.left script.old) (I.left script.new) (O.held out.old) (O.held out.new) (D.seen disk_a.new) }
+    ensures site_b_is_untouched { disk_b.new ≡ disk_b.old }
 
     // A legal script over empty devices is run, unless memory runs out or an object fails.
-    ensures a_legal_script_is_run { (bytes : List ℕ) (legal : Script) → are_run words.now ≡ true → I.left script.old ≡ Some bytes →
+    ensures a_legal_script_is_run { (bytes : List ℕ) (legal : Script) → are_run words.now ≡ true → AreEmpty (D.seen disk_a.old) (D.seen disk_b.old) →
+        I.left script.old ≡ Some bytes →
         script_of bytes ≡ Ok legal →
         (Rose (I.fault_count script.old) (I.fault_count script.new) → ⊥) →
         (Rose (O.fault_count out.old) (O.fault_count out.new) → ⊥) →
@@ -64,9 +60,14 @@ pub fn top<R: Threads + Sync, I: Source, O: Sink, D: LogDisk>(
 
     // When each other status comes.
     ensures usage_exactly { (result ≡ Status.Usage) ↔ ((are_run words.now ≡ false) × (are_read words.now ≡ false)) }
+    ensures not_empty_names_the_first_file { (site : SiteId) (file size : ℕ) → result ≡ Status.NotEmpty site file size →
+        (are_run words.now ≡ true) × IsFirstHeld site file size (D.seen disk_a.old) (D.seen disk_b.old) }
+    ensures a_device_that_is_not_empty_is_refused { (site : SiteId) (file size : ℕ) → are_run words.now ≡ true →
+        IsFirstHeld site file size (D.seen disk_a.old) (D.seen disk_b.old) → result ≡ Status.NotEmpty site file size }
     ensures bad_script_names_the_first_bad_line { (line : ℕ) (kind : ScriptKind) → result ≡ Status.BadScript line kind →
         IfSome (I.left script.old) (λ bytes. script_of bytes ≡ Err (record { line = line; kind = kind })) }
-    ensures a_bad_script_is_refused { (bytes : List ℕ) (bad : BadLine) → are_run words.now ≡ true → I.left script.old ≡ Some bytes →
+    ensures a_bad_script_is_refused { (bytes : List ℕ) (bad : BadLine) → are_run words.now ≡ true → AreEmpty (D.seen disk_a.old) (D.seen disk_b.old) →
+        I.left script.old ≡ Some bytes →
         script_of bytes ≡ Err bad →
         (result ≡ Status.BadScript bad.line bad.kind) ⊎ (result ≡ Status.ReadFault) ⊎ (result ≡ Status.NoMemory) }
     ensures bad_log_names_the_first_bad_event { (position : ℕ) (field : Field) → result ≡ Status.BadLog position field →
@@ -83,18 +84,22 @@ pub fn top<R: Threads + Sync, I: Source, O: Sink, D: LogDisk>(
 
     // What each other status leaves.
     ensures usage_touches_nothing { result ≡ Status.Usage → (script.new ≡ script.old) × (out.new ≡ out.old) × (disk_a.new ≡ disk_a.old) }
+    ensures not_empty_touches_nothing { IsNotEmpty result → (script.new ≡ script.old) × (out.new ≡ out.old) × (disk_a.new ≡ disk_a.old) }
     ensures no_run_touches_no_output { are_run words.now ≡ true → IsBeforeRun result → (out.new ≡ out.old) × (disk_a.new ≡ disk_a.old) }
     ensures a_fault_leaves_a_part { are_run words.now ≡ true → IsRunFault result →
-        HasStopped (I.left script.old) (I.left script.new) (O.held out.old) (O.held out.new) (D.seen disk_a.new 1) result }
+        HasStopped (I.left script.old) (I.left script.new) (O.held out.old) (O.held out.new) (D.seen disk_a.new) result }
     ensures want_of_memory_leaves_a_part { are_run words.now ≡ true → result ≡ Status.NoMemory →
         IsUntouched (O.held out.old) (O.held out.new) (D.seen disk_a.old) (D.seen disk_a.new)
-        ⊎ HasStopped (I.left script.old) (I.left script.new) (O.held out.old) (O.held out.new) (D.seen disk_a.new 1) result }
+        ⊎ HasStopped (I.left script.old) (I.left script.new) (O.held out.old) (O.held out.new) (D.seen disk_a.new) result }
     ensures a_bad_log_is_told_up_to_it { (position : ℕ) (field : Field) → result ≡ Status.BadLog position field →
         HasMetBadEvent most_log_bytes position field (I.left script.old) (I.left script.new) (O.held out.old) (O.held out.new) }
     ensures a_reading_leaves_a_part { are_read words.now ≡ true → IsReadingFault result →
         HasReadPart most_log_bytes (I.left script.old) (I.left script.new) (O.held out.old) (O.held out.new) }
 {
     if are_run_words(words) {
+        if let Some(HeldFile { site, file, length }) = first_held(disk_a, disk_b) {
+            return Status::NotEmpty { site, file, length };
+        }
         return run_script(alloc, script, out, disk_a);
     }
     if are_read_words(words) {
@@ -112,8 +117,7 @@ fn run_script<I: Source, O: Sink, D: LogDisk>(
 ) -> Status
     requires a_is_empty { (file : ℕ) → D.seen disk_a.old file ≡ [] }
     ensures run_meets_headline { result ≡ Status.Done →
-        HasRun (I.left script.old) (I.left script.new) (O.held out.old) (O.held out.new) (D.seen disk_a.new 1) }
-    ensures no_other_file_changes { (file : ℕ) → file ≢ 1 → D.seen disk_a.new file ≡ D.seen disk_a.old file }
+        HasRun (I.left script.old) (I.left script.new) (O.held out.old) (O.held out.new) (D.seen disk_a.new) }
     ensures a_legal_script_is_run { (bytes : List ℕ) (legal : Script) → I.left script.old ≡ Some bytes →
         script_of bytes ≡ Ok legal →
         (Rose (I.fault_count script.old) (I.fault_count script.new) → ⊥) →
@@ -121,6 +125,7 @@ fn run_script<I: Source, O: Sink, D: LogDisk>(
         (Rose (D.fault_count disk_a.old) (D.fault_count disk_a.new) → ⊥) →
         (result ≡ Status.Done) ⊎ (result ≡ Status.NoMemory) }
     ensures no_usage { result ≡ Status.Usage → ⊥ }
+    ensures no_held_file { IsNotEmpty result → ⊥ }
     ensures no_bad_log { IsBadLog result → ⊥ }
     ensures bad_script_names_the_first_bad_line { (line : ℕ) (kind : ScriptKind) → result ≡ Status.BadScript line kind →
         IfSome (I.left script.old) (λ bytes. script_of bytes ≡ Err (record { line = line; kind = kind })) }
@@ -133,10 +138,10 @@ fn run_script<I: Source, O: Sink, D: LogDisk>(
     ensures disk_fault_names_site_a { IsDiskFault result → result ≡ Status.DiskFault SiteId.A }
     ensures no_run_touches_no_output { IsBeforeRun result → (out.new ≡ out.old) × (disk_a.new ≡ disk_a.old) }
     ensures a_fault_leaves_a_part { IsRunFault result →
-        HasStopped (I.left script.old) (I.left script.new) (O.held out.old) (O.held out.new) (D.seen disk_a.new 1) result }
+        HasStopped (I.left script.old) (I.left script.new) (O.held out.old) (O.held out.new) (D.seen disk_a.new) result }
     ensures want_of_memory_leaves_a_part { result ≡ Status.NoMemory →
         IsUntouched (O.held out.old) (O.held out.new) (D.seen disk_a.old) (D.seen disk_a.new)
-        ⊎ HasStopped (I.left script.old) (I.left script.new) (O.held out.old) (O.held out.new) (D.seen disk_a.new 1) result }
+        ⊎ HasStopped (I.left script.old) (I.left script.new) (O.held out.old) (O.held out.new) (D.seen disk_a.new) result }
 {
     let bytes = match read_all(alloc, script, MOST_SCRIPT_BYTES) {
         Ok(bytes) => bytes,
@@ -156,8 +161,8 @@ fn run_script<I: Source, O: Sink, D: LogDisk>(
     };
     let report = match run(alloc, parsed, disk_a) {
         Ok(report) => report,
-        Err(SiteFault::DiskFault) => return Status::DiskFault { site: SiteId::A },
-        Err(SiteFault::NoMemory) => return Status::NoMemory,
+        Err(DiskLogFault::DiskFault) => return Status::DiskFault { site: SiteId::A },
+        Err(DiskLogFault::NoMemory) => return Status::NoMemory,
     };
     match write_all(out, report.as_slice()) {
         Ok(()) => Status::Done,

@@ -1,23 +1,23 @@
-ghost use Rattle.std.specs.Prelude.{◌≡◌, ◌≢◌, ℕ, ◌<◌, ◌^◌, ◌++◌, ◌∷◌, [], List, length, IfOk, IfErr, OnOk};
+ghost use Rattle.std.specs.Prelude.{◌≡◌, ℕ, ◌<◌, ◌^◌, ◌++◌, [], List, length, IfOk, OnOk, OnErr};
 ghost use Rattle.std.specs.List.{flat_map};
 ghost use Rattle.rb_base.specs.declared.site.SiteId.TheVariants.{A};
 ghost use Rattle.rb_journal_defs.specs.Journal.{Journal, row_at};
 ghost use Rattle.rb_journal_defs.specs.Body.{Shape};
 ghost use Rattle.rb_store.specs.Tables.{rows_in};
-ghost use Rattle.rb_text_defs.specs.Report.{log_line, table_lines, text_of_lines};
+ghost use Rattle.rb_text_defs.specs.Report.{log_lines, table_lines, text_of_lines};
 ghost use Rattle.rb_text_defs.specs.Legal.{IsLegal};
-ghost use Rattle.rb_play_defs.specs.Step.{Progress, last_epoch, written_bodies};
-ghost use Rattle.rb_play_defs.specs.Play.{tables_left, log_of, report_of};
-ghost use Rattle.rb_site.specs.Fault.{HasDiskCause, LeavesPart};
-ghost use Rattle.rb_site.specs.Site.{IsSite};
-ghost use Rattle.rb_top.specs.Run.{IsLogOfScript};
+ghost use Rattle.rb_play_defs.specs.Step.{Progress, written_bodies};
+ghost use Rattle.rb_play_defs.specs.Play.{tables_left, log_of, log_rows, report_of, HoldsLogOf};
+ghost use Rattle.rb_play_defs.specs.Part.{HoldsPart};
+ghost use Rattle.rb_disk.specs.Fault.{HasDiskCause};
+ghost use Rattle.rb_site.specs.Site.{IsSite, limit_of};
 
 use crate::play::play;
 use rb_base::{Bytes, NoMemory, Schema, SiteId};
-use rb_disk::LogDisk;
+use rb_disk::{DiskLogFault, LogDisk};
 use rb_print::{print_log, print_table};
 use rb_script::Script;
-use rb_site::{Site, SiteFault};
+use rb_site::Site;
 use rb_store::Tables;
 use std::alloc::Global;
 
@@ -26,12 +26,11 @@ pub(crate) fn run<D: LogDisk>(
     alloc: Global,
     script: Script,
     disk: &mut D,
-) -> Result<Bytes, SiteFault>
+) -> Result<Bytes, DiskLogFault>
     requires legal { IsLegal script }
-    requires empty { D.seen disk.old 1 ≡ [] }
-    ensures ok { IfOk result (λ report. (report ≡ report_of script) × IsLogOfScript script (D.seen disk.new 1)) }
-    ensures err { IfErr result (LeavesPart (log_of script) (D.seen disk.new 1)) }
-    ensures others { (other : ℕ) → other ≢ 1 → D.seen disk.new other ≡ D.seen disk.old other }
+    requires empty { (file : ℕ) → D.seen disk.old file ≡ [] }
+    ensures ok { IfOk result (λ report. (report ≡ report_of script) × HoldsLogOf script (D.seen disk.new)) }
+    ensures err { OnErr result (HoldsPart script.setup.a.limit 0 (log_of script) (D.seen disk.new)) }
     ensures cause { HasDiskCause (D.fault_count disk.old) (D.fault_count disk.new) result }
 {
     let Script { setup, events } = script;
@@ -43,13 +42,14 @@ pub(crate) fn run<D: LogDisk>(
     Ok(Bytes::from_vec(text))
 }
 
-// Appends the line on a site's log, which is one file.
+// Appends the lines of a site's log: the counts of its files and epochs, and a line for each row of its index.
 fn put_log(alloc: Global, text: &mut Vec<u8>, site: &Site) -> Result<(), NoMemory>
-    ensures { OnOk result ((shape : Shape) (file : List ℕ) (run : Progress) → IsSite shape site.now file run →
-        text.new.items ≡ text.old.items ++ (log_line A 1 (length (written_bodies shape run)) (last_epoch (written_bodies shape run)) ++ 10 ∷ [])) }
+    ensures { OnOk result ((shape : Shape) (seen : ℕ → List ℕ) (run : Progress) → IsSite shape site.now seen run →
+        text.new.items ≡ text.old.items ++ text_of_lines (log_lines A (log_rows (limit_of site.now) (written_bodies shape run)))) }
 {
-    let line = print_log(alloc, SiteId::A, 1, site.written(), site.last_written())?;
-    text.extend_from_slice(line.as_slice())?;
+    let rows = site.index().rows();
+    let lines = print_log(alloc, SiteId::A, site.last_file(), rows)?;
+    text.extend_from_slice(lines.as_slice())?;
     Ok(())
 }
 

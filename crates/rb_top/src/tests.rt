@@ -6,6 +6,7 @@ use std::alloc::Global;
 use std::test::Fail;
 use std::thread::Threads;
 
+mod devices;
 mod failures;
 mod faults;
 mod reading;
@@ -25,6 +26,7 @@ const WORKED_REPORT: &[u8] = b"ndb replication report
 4 closed 4294967296 sent=3
 5 delivered kept=3 known=0 old=0 wrote 1 written=4294967296 missing=0:done
 log A files=1 epochs=1 written=4294967296
+epoch 4294967296 gci=1 file=1 pos=115 next=456 ins=2 upd=0 del=0
 table A t rows=2
 row 5 7
 row 6 8

@@ -22,6 +22,7 @@ fn a_takeover_in_an_open_epoch(rt: HostRuntime) -> Result<(), Fail> {
 9 node down 0
 10 node up 1
 log A files=1 epochs=1 written=4294967296
+epoch 4294967296 gci=1 file=1 pos=115 next=513 ins=3 upd=0 del=0
 table A t rows=3
 row 1 10
 row 2 20
@@ -68,6 +69,7 @@ fn a_resend(rt: HostRuntime) -> Result<(), Fail> {
 5 resent sent=6
 6 delivered kept=3 known=3 old=0 wrote 1 written=4294967296 missing=0:done
 log A files=1 epochs=1 written=4294967296
+epoch 4294967296 gci=1 file=1 pos=115 next=399 ins=1 upd=0 del=0
 table A t rows=1
 row 1 1
 end
@@ -191,7 +193,9 @@ fn two_failures_behind<R: Abort + Threads + Sync>(
         let report = format!(in alloc;
             "ndb replication report\n3 ok transid=1 epoch=4294967296 sent=4\n4 closed 4294967296 sent=8\n\
             5 ok transid=2 epoch=4294967297 sent=12\n6 failed takeover=1 sent=15\n{answers}\
-            log A files=1 epochs=2 written=4294967297\ntable A t rows=8\n\
+            log A files=1 epochs=2 written=4294967297\n\
+            epoch 4294967296 gci=1 file=1 pos=115 next=570 ins=4 upd=0 del=0\n\
+            epoch 4294967297 gci=1 file=1 pos=570 next=1025 ins=4 upd=0 del=0\ntable A t rows=8\n\
             row 0 0\nrow 1 1\nrow 2 2\nrow 3 3\nrow 4 4\nrow 5 5\nrow 6 6\nrow 7 7\nend\n"
         )?;
         let left = run_script(rt, alloc, script.as_bytes())?;
@@ -249,6 +253,10 @@ const EVENTFUL_REPORT: &[u8] = b"ndb replication report
 21 closed 8589934592 sent=33
 22 delivered kept=5 known=0 old=0 wrote 1 written=8589934592 missing=0:done
 log A files=1 epochs=4 written=8589934592
+epoch 4294967296 gci=1 file=1 pos=115 next=576 ins=3 upd=0 del=0
+epoch 4294967297 gci=1 file=1 pos=576 next=990 ins=0 upd=1 del=1
+epoch 4294967298 gci=1 file=1 pos=990 next=1286 ins=1 upd=0 del=0
+epoch 8589934592 gci=2 file=1 pos=1286 next=1574 ins=1 upd=0 del=0
 table A item rows=2
 row 1 10 100
 row 9 90 900

@@ -1,5 +1,5 @@
 use super::sips::Sips;
-use super::spelled::{TWO_ROWS, file_of};
+use super::spelled::{ONE_ROW, ONE_ROW_RECORD, TWO_ROWS, TWO_ROWS_INDEX, file_of, spell};
 use super::{FailedLeft, WORKED, WORKED_REPORT, run_failing, words_of};
 use crate::{Status, top};
 use rb_base::{Bytes, SiteId};
@@ -71,17 +71,67 @@ fn a_later_write_fails(rt: HostRuntime) -> Result<(), Fail> {
     Ok(())
 }
 
-// The calls of the device are the write of the file's start, a sync, the write of the epoch, and a sync.
+// The first so many of these bytes.
+fn front(bytes: &[u8], length: usize) -> &[u8] {
+    &bytes[..length.min(bytes.len())]
+}
+
+/// The calls of the device that log one epoch, by what fails, each with the lengths that files 0 and 1 then have.
+const CALLS: [(usize, usize); 10] = [
+    // The index is made, and then the binlog's first file: written and synced.
+    (0, 0),
+    (1, 0),
+    (1, 0),
+    (1, 115),
+    // The epoch is written and synced, then its row behind a closed gate, and then the open gate.
+    (1, 115),
+    (1, 456),
+    (1, 456),
+    (66, 456),
+    (66, 456),
+    (66, 456),
+];
+
+// The fifth call is the third write: the epoch's bytes.
 #[test]
 fn each_call_of_the_device_fails(rt: HostRuntime) -> Result<(), Fail> {
-    let whole = file_of(rt.alloc(), &TWO_ROWS)?;
-    assert_eq!(rt; whole.len(), 456);
+    let alloc = rt.alloc();
+    let whole = file_of(alloc, &TWO_ROWS)?;
+    let mut index = spell(alloc, &[TWO_ROWS_INDEX])?;
     let fault = Status::DiskFault { site: SiteId::A };
-    for (call, length) in [(0u64, 0usize), (1, 115), (2, 115), (3, 456)] {
-        let left = run_failing(&rt, rt.alloc(), WORKED, &[], &[], &[call])?;
-        check(&rt, &left, fault, &whole[..length.min(456)]);
+    for (call, lengths) in CALLS.iter().enumerate() {
+        let left = run_failing(&rt, alloc, WORKED, &[], &[], &[call as u64])?;
+        check(&rt, &left, fault, front(&whole, lengths.1));
+        if let Some(gate) = index.first_mut() {
+            *gate = u8::from(call == 9);
+        }
+        assert_eq!(rt;
+            left.disk_a.file(0),
+            front(&index, lengths.0),
+            "at call {call}"
+        );
     }
-    let left = run_failing(&rt, rt.alloc(), WORKED, &[], &[], &[4])?;
+    let left = run_failing(&rt, alloc, WORKED, &[], &[], &[10])?;
     assert_eq!(rt; left.status, Status::Done);
+    Ok(())
+}
+
+/// A script whose injector starts again behind one epoch, that inserts (1, 1).
+const RESTARTED: &[u8] =
+    b"table t num\ntx A ins t 1 1\nepoch A\nepoch A\nlog A\ninjector A\ntx A ins t 2 2\nepoch A\nlog A\n";
+
+// Behind the ten calls that log its first epoch, recovery syncs and reads the index, closes the gate behind its last record and syncs
+// that, and cuts file 1 behind that record's epoch and syncs that.
+#[test]
+fn each_call_of_a_recovery_fails(rt: HostRuntime) -> Result<(), Fail> {
+    let alloc = rt.alloc();
+    let log = file_of(alloc, &ONE_ROW)?;
+    let index = spell(alloc, &[ONE_ROW_RECORD, "00"])?;
+    let fault = Status::DiskFault { site: SiteId::A };
+    for call in 10..16u64 {
+        let left = run_failing(&rt, alloc, RESTARTED, &[], &[], &[call])?;
+        check(&rt, &left, fault, &log);
+        assert_eq!(rt; left.disk_a.file(0), index.as_slice(), "at call {call}");
+    }
     Ok(())
 }

@@ -21,7 +21,7 @@ const COLUMNS: ScriptKind = ScriptKind::Limit(Limit::Columns);
 const ROW_BYTES: ScriptKind = ScriptKind::Limit(Limit::RowBytes);
 
 /// Short scripts that are refused, each with its first bad line and what is wrong there.
-const REFUSED: [(&[u8], u32, ScriptKind); 42] = [
+const REFUSED: [(&[u8], u32, ScriptKind); 44] = [
     // Forms.
     (b"frob\n", 1, SYNTAX),
     (b"log A\n \tfrob", 2, SYNTAX),
@@ -65,7 +65,9 @@ const REFUSED: [(&[u8], u32, ScriptKind); 42] = [
     (b"site A groups 0 replicas 1 limit 1048576\n", 1, GROUPS),
     (b"site A groups 1 replicas 5 limit 1048576\n", 1, REPLICAS),
     (b"site A groups 1 replicas 0 limit 1048576\n", 1, REPLICAS),
-    (b"site A groups 1 replicas 1 limit 512\n", 1, LOG_LIMIT),
+    (b"site A groups 1 replicas 1 limit 511\n", 1, LOG_LIMIT),
+    (b"site A groups 1 replicas 1 limit 67108865\n", 1, LOG_LIMIT),
+    (b"site A groups 1 replicas 1 limit 0\n", 1, LOG_LIMIT),
     (
         b"table t num num num num num num num num num num num num num num num num\n",
         1,
@@ -84,15 +86,15 @@ const REFUSED: [(&[u8], u32, ScriptKind); 42] = [
     // On one line its form counts first, then the lines before it, then the limits in turn.
     (b"table t num\ntx A ins u 1 1 ; ins t x 1\n", 2, SYNTAX),
     (b"log A\nsite A groups 9 replicas 1 limit x\n", 2, SYNTAX),
-    (b"log A\nsite A groups 9 replicas 5 limit 512\n", 2, SETUP),
+    (b"log A\nsite A groups 9 replicas 5 limit 511\n", 2, SETUP),
     (
         b"table t\ntable t num num num num num num num num num num num num num num num num\n",
         2,
         SETUP,
     ),
-    (b"site A groups 9 replicas 5 limit 512\n", 1, GROUPS),
-    (b"site A groups 8 replicas 5 limit 512\n", 1, REPLICAS),
-    (b"site A groups 8 replicas 4 limit 512\n", 1, LOG_LIMIT),
+    (b"site A groups 9 replicas 5 limit 511\n", 1, GROUPS),
+    (b"site A groups 8 replicas 5 limit 511\n", 1, REPLICAS),
+    (b"site A groups 8 replicas 4 limit 511\n", 1, LOG_LIMIT),
 ];
 
 // The script is refused at this line for this, nothing is printed and nothing is written.
@@ -190,20 +192,16 @@ fn too_many_tables(rt: HostRuntime) -> Result<(), Fail> {
 fn too_many_changes(rt: HostRuntime) -> Result<(), Fail> {
     let alloc = rt.alloc();
     let changes = ScriptKind::Limit(Limit::Changes);
-    let part = b"tx A ins t 1 1\n";
-    let script = repeated(alloc, b"table t num\n", part, 401, b"")?;
-    check(&rt, alloc, &script, 402, changes)?;
-    let script = repeated(
-        alloc,
-        b"table t num\n",
-        part,
-        399,
-        b"tx A del t 1 ; del t 2",
-    )?;
-    check(&rt, alloc, &script, 401, changes)?;
+    let mut most = Vec::from_slice(alloc, b"tx A ins t 1 1")?;
+    for _ in 1..4000 {
+        most.extend_from_slice(b" ; ins t 1 1")?;
+    }
+    most.push(b'\n')?;
+    let script = repeated(alloc, b"table t num\n", &most, 25, b"tx A del t 1")?;
+    check(&rt, alloc, &script, 27, changes)?;
+    let script = repeated(alloc, b"table t num\n", &most, 26, b"")?;
+    check(&rt, alloc, &script, 27, changes)?;
     let first = b"table t num\ntx A ins t 1 1";
-    let script = repeated(alloc, first, b" ; ins t 1 1", 4095, b"")?;
-    check(&rt, alloc, &script, 2, changes)?;
     let script = repeated(alloc, first, b" ; ins t 1 1", 4096, b"")?;
     check(&rt, alloc, &script, 2, ScriptKind::Limit(Limit::TxChanges))
 }

@@ -19,7 +19,7 @@ pub(super) fn check(rt: &impl Abort, left: &Left, report: &[u8], file: &[u8]) {
     assert_eq!(rt; left.status, Status::Done);
     assert_eq!(rt; left.sink.bytes(), report);
     assert_eq!(rt; left.disk_a.file(1), file);
-    are_empty(rt, &left.disk_a, &[0, 2]);
+    are_empty(rt, &left.disk_a, &[2]);
     are_empty(rt, &left.disk_b, &[0, 1, 2]);
 }
 
@@ -61,6 +61,7 @@ fn two_rows_in_other_words(rt: HostRuntime) -> Result<(), Fail> {
 7 closed 4294967296 sent=3
 8 delivered kept=3 known=0 old=0 wrote 1 written=4294967296 missing=0:done
 log A files=1 epochs=1 written=4294967296
+epoch 4294967296 gci=1 file=1 pos=115 next=456 ins=2 upd=0 del=0
 table A t rows=2
 row 5 7
 row 6 8
@@ -86,6 +87,8 @@ fn empty_epochs(rt: HostRuntime) -> Result<(), Fail> {
 8 closed 8589934593 sent=7
 9 delivered kept=7 known=0 old=0 wrote 2 written=8589934593 missing=0:done
 log A files=1 epochs=2 written=8589934593
+epoch 4294967296 gci=1 file=1 pos=115 next=399 ins=1 upd=0 del=0
+epoch 8589934593 gci=2 file=1 pos=399 next=683 ins=1 upd=0 del=0
 table A t rows=2
 row 1 1
 row 2 2
@@ -137,6 +140,7 @@ fn deliveries(rt: HostRuntime) -> Result<(), Fail> {
 10 wrote 1 written=4294967296 missing=0:done
 11 old
 log A files=1 epochs=1 written=4294967296
+epoch 4294967296 gci=1 file=1 pos=115 next=456 ins=2 upd=0 del=0
 table A t rows=2
 row 5 7
 row 6 8
@@ -166,6 +170,8 @@ fn an_epoch_that_waits(rt: HostRuntime) -> Result<(), Fail> {
 11 kept
 12 wrote 2 written=4294967297 missing=0:done
 log A files=1 epochs=2 written=4294967297
+epoch 4294967296 gci=1 file=1 pos=115 next=399 ins=1 upd=0 del=0
+epoch 4294967297 gci=1 file=1 pos=399 next=683 ins=1 upd=0 del=0
 table A t rows=2
 row 1 1
 row 2 2
@@ -188,6 +194,7 @@ fn two_buckets(rt: HostRuntime) -> Result<(), Fail> {
 5 closed 4294967296 sent=5
 6 delivered kept=5 known=0 old=0 wrote 1 written=4294967296 missing=0:done
 log A files=1 epochs=1 written=4294967296
+epoch 4294967296 gci=1 file=1 pos=115 next=513 ins=3 upd=0 del=0
 table A t rows=3
 row 1 10
 row 2 20
@@ -218,6 +225,8 @@ fn epochs_that_are_not_logged(rt: HostRuntime) -> Result<(), Fail> {
 10 ok transid=3 epoch=4294967300 sent=7
 11 closed 4294967300 sent=8
 log A files=1 epochs=2 written=4294967299
+epoch 4294967296 gci=1 file=1 pos=115 next=399 ins=1 upd=0 del=0
+epoch 4294967299 gci=1 file=1 pos=399 next=683 ins=1 upd=0 del=0
 table A t rows=3
 row 1 1
 row 2 2
@@ -246,6 +255,8 @@ fn logs_in_turn(rt: HostRuntime) -> Result<(), Fail> {
 10 closed 4294967299 sent=6
 11 delivered kept=4 known=0 old=0 wrote 1 written=4294967299 missing=0:done
 log A files=1 epochs=2 written=4294967299
+epoch 4294967296 gci=1 file=1 pos=115 next=399 ins=1 upd=0 del=0
+epoch 4294967299 gci=1 file=1 pos=399 next=683 ins=1 upd=0 del=0
 table A t rows=2
 row 1 1
 row 2 2
@@ -404,6 +415,9 @@ const LOST_REPORT: &[u8] = b"ndb replication report
 39 closed 8589934592 sent=18
 40 delivered kept=5 known=0 old=0 wrote 1 written=8589934592 missing=0:done
 log A files=1 epochs=3 written=8589934592
+epoch 4294967296 gci=1 file=1 pos=115 next=576 ins=3 upd=0 del=0
+epoch 4294967297 gci=1 file=1 pos=576 next=990 ins=0 upd=1 del=1
+epoch 8589934592 gci=2 file=1 pos=990 next=1286 ins=1 upd=0 del=0
 table A item rows=2
 row 1 10 100
 row 9 90 900

@@ -57,11 +57,31 @@ pub(super) const TWO_TEXTS: [&str; 8] = [
     "00000000 10 01000000 1b000000 e8010000 0000 0000000001000000",
 ];
 
+/// The rotate event behind two epochs of one row each: the log goes on in file 2.
+pub(super) const ROTATE: &str =
+    "00000000 04 01000000 27000000 d2020000 0000 0400000000000000 612d62696e2e303030303032";
+
+/// The index of the epoch of [`TWO_ROWS`]: its row behind an open gate, and a closed gate.
+pub(super) const TWO_ROWS_INDEX: &str =
+    "01 0000000001000000 0000000001000000 7300000000000000 c801000000000000 01000000 01000000 02000000 \
+     00000000 00000000 00000000 01000000 01000000 00";
+
+/// The row of the epoch of [`ONE_ROW`], behind an open gate.
+pub(super) const ONE_ROW_RECORD: &str =
+    "01 0000000001000000 0000000001000000 7300000000000000 8f01000000000000 01000000 01000000 01000000 \
+     00000000 00000000 00000000 01000000 01000000";
+
 /// The bytes of the start, and of these events behind it.
 pub(super) fn file_of(alloc: Global, events: &[&str]) -> Result<Vec<u8>, Fail> {
-    let mut bytes = Vec::new(alloc);
-    push_events(&mut bytes, &START)?;
+    let mut bytes = spell(alloc, &START)?;
     push_events(&mut bytes, events)?;
+    Ok(bytes)
+}
+
+/// The bytes that these parts spell, one behind the other.
+pub(super) fn spell(alloc: Global, parts: &[&str]) -> Result<Vec<u8>, Fail> {
+    let mut bytes = Vec::new(alloc);
+    push_events(&mut bytes, parts)?;
     Ok(bytes)
 }
 

@@ -13,6 +13,7 @@ fn two_texts(rt: HostRuntime) -> Result<(), Fail> {
 4 closed 4294967296 sent=3
 5 delivered kept=3 known=0 old=0 wrote 1 written=4294967296 missing=0:done
 log A files=1 epochs=1 written=4294967296
+epoch 4294967296 gci=1 file=1 pos=115 next=488 ins=2 upd=0 del=0
 table A x rows=1
 row 18446744073709551615 \"a\"
 table A y rows=1

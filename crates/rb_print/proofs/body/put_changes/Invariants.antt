@@ -1,6 +1,6 @@
 use Rattle.std.proofs.Common.{◌≡◌, ◌++◌, ◌∷◌, [], take}
 use Rattle.std.specs.List.{flat_map}
-use Rattle.rb_text_defs.specs.LogText.{Ascend, change_line}
+use Rattle.rb_text_defs.specs.LogText.{change_line}
 use Rattle.rb_print.proofs.body.put_changes.Given as goal
 
 abbrev pub invariant-loop-change : goal.invariant-loop-change

@@ -1,8 +1,8 @@
 use Rattle.rb_play_defs.specs.Step.{site_step}
 use Rattle.rb_site.proofs.tests.go_on.Goals as goal
 
-pub step-requires : goal.step-requires
-step-requires g c =
+pub one_event-requires : goal.one_event-requires
+one_event-requires g c =
     let (shape, run, held) = c.requires.there in
     record { fits = (shape, run, held, c.requires.needs shape) }
 

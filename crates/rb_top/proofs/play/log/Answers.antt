@@ -1,13 +1,15 @@
-use Rattle.std.proofs.lemmas.Result.{err_from_is_err_and}
-use Rattle.rb_play_defs.specs.Step.{site_step}
+use Rattle.std.proofs.Common.{ℕ, subst}
+use Rattle.rb_play_defs.specs.Step.{site_step, written_bodies}
+use Rattle.rb_play_defs.specs.Play.{log_step}
+use Rattle.rb_play_defs.specs.Part.{HoldsPart}
 use Rattle.rb_play_defs.specs.declared.event.SiteEvent.TheVariants.{DeliverAll}
+use Rattle.rb_site.proofs.BeginLaws.{on_err}
 use Rattle.rb_top.proofs.Running.{stopped_first, stopped_second, logged_as}
 use Rattle.rb_top.proofs.play.log.Goals as goal
 
 pub returns-in_err-site-clause-stopped : goal.returns-in_err-site-clause-stopped
 returns-in_err-site-clause-stopped g c =
-    let p = err_from_is_err_and c.from_residual.result c.from_residual.ensures.1 in
-    rw (p.1, p.2) (λ shape run held. stopped_first shape run c.args.site _ _ _ held (c.in_err-site.ensures.stopped shape run held))
+    on_err c.from_residual.result (λ shape run held. stopped_first shape _ run c.args.site _ _ held (c.in_err-site.ensures.stopped shape run held))
 
 pub step-requires-2 : goal.step-requires-2
 step-requires-2 g c =
@@ -16,8 +18,9 @@ step-requires-2 g c =
 
 pub returns-in_err-site-2-clause-stopped : goal.returns-in_err-site-2-clause-stopped
 returns-in_err-site-2-clause-stopped g c =
-    let p = err_from_is_err_and c.from_residual-in_err-site-2.result c.from_residual-in_err-site-2.ensures.1 in
-    rw (p.1, p.2) (λ shape run held. stopped_second shape run _ _ (c.in_err-site-2.ensures.stopped shape (site_step shape run DeliverAll).run (c.in_ok-site.ensures.stepped shape run held tt).0))
+    on_err c.from_residual-in_err-site-2.result (λ shape run held.
+    subst (λ (limit : ℕ). HoldsPart limit 0 (written_bodies shape (log_step shape run).run) (g.D.LogDisk.seen c.step-2.new.disk)) c.in_ok-site.ensures.limit
+    (stopped_second shape _ _ run _ (c.in_err-site-2.ensures.stopped shape (site_step shape run DeliverAll).run (c.in_ok-site.ensures.stepped shape run held tt).0)))
 
 pub returns-clause-played : goal.returns-clause-played
 returns-clause-played g c = λ shape run held.

@@ -1,33 +1,34 @@
-use Rattle.std.proofs.Common.{◌∙◌, ◌++◌, ◌∷◌, [], List, sym, ap, subst, refl, arith}
+use Rattle.std.proofs.Common.{◌∙◌, ◌++◌, ◌∷◌, [], List, ℕ, sym, ap, subst, refl, arith}
+use Rattle.rb_play_defs.specs.Part.{HoldsPart}
+use Rattle.rb_play_defs.specs.Step.{written_bodies}
 use Rattle.std.proofs.lemmas.List.{nil_from_length}
-use Rattle.std.proofs.lemmas.Result.{err_from_is_err_and}
 use Rattle.rb_base.specs.declared.schema.Schema.{Schema}
 use Rattle.rb_text_defs.specs.declared.script.Script.{Script}
 use Rattle.rb_text_defs.specs.declared.script.LinedEvent.{LinedEvent}
+use Rattle.rb_site.proofs.BeginLaws.{on_err}
 use Rattle.rb_site.proofs.InjectLaws.{err_anyway}
 use Rattle.rb_site.specs.Site.{AreDeclared, shape_of as site_shape}
-use Rattle.rb_play_defs.specs.Play.{shape_of, play_of}
+use Rattle.rb_play_defs.specs.Play.{shape_of, play_of, event_step}
 use Rattle.rb_top.proofs.LegalLaws.{declared}
 use Rattle.rb_top.proofs.Running.{part_of_any, played_whole, room_for, starts, stopped_in, stopped_behind, stands_more, text_more, told_nothing, whole_more}
 use Rattle.rb_top.proofs.play.play.Goals as goal
 
-pub create-requires-clause-declared : goal.create-requires-clause-declared
-create-requires-clause-declared g c =
+pub begin-requires-clause-declared : goal.begin-requires-clause-declared
+begin-requires-clause-declared g c =
     let script : Script = record { setup = c.args.setup.now; events = c.args.events } in
-    subst (λ (schemas : List Schema). AreDeclared (site_shape schemas script.setup.a.groups script.setup.a.replicas)) (sym c.as_slice.ensures) (declared script c.requires.legal)
+    declared script c.requires.legal
 
 pub returns-in_err-site-clause-stopped : goal.returns-in_err-site-clause-stopped
 returns-in_err-site-clause-stopped g c =
-    let p = err_from_is_err_and c.from_residual.result c.from_residual.ensures.1 in
-    rw (p.1, p.2) (part_of_any _ _ _ c.in_err-site.ensures.stopped)
+    on_err c.from_residual.result (part_of_any _ _ _ c.in_err-site.ensures.stopped)
 
 pub loop-lined-init : goal.loop-lined-init
 loop-lined-init g c =
     record {
       whole = sym (c.into_iter-lined-iterator.ensures.into_iter_gives.0 ∙ c.into_vec-lined-items.ensures);
-      stands = starts c.args.setup.now _ _ _ c.as_slice.ensures c.in_ok-site.ensures.begun;
+      stands = starts c.args.setup.now _ _ _ refl c.in_ok-site.ensures.begun;
+      limit = c.in_ok-site.ensures.limit;
       told = told_nothing c.args.setup.now c.args.text.now.items;
-      others = λ other not_one. refl;
       later = omega arith;
     }
 
@@ -42,14 +43,13 @@ play_event-requires g c =
 
 pub returns-in_err-after-clause-stopped : goal.returns-in_err-after-clause-stopped
 returns-in_err-after-clause-stopped g c =
-    let p = err_from_is_err_and c.from_residual-in_err-after.result c.from_residual-in_err-after.ensures.1 in
     let setup = c.args.setup.now in
     let script : Script = record { setup = setup; events = c.args.events } in
     let shape = shape_of setup in
     let before = c.loop-lined.invariant in
-    rw (p.1, p.2) (stopped_in script c.loop-lined.site _ _ _ c.loop-lined.yielded c.in-Some.lined c.next.new.self.rest.items
+    on_err c.from_residual-in_err-after.result (stopped_in script setup.a.limit c.loop-lined.site _ _ c.loop-lined.yielded c.in-Some.lined c.next.new.self.rest.items
     (whole_more c.args.events c.loop-lined.yielded _ _ c.in-Some.lined before.whole c.in-Some.ensures.steps.0) before.stands
-    (c.in_err-after.ensures.stopped shape (play_of setup c.loop-lined.yielded).run before.stands))
+    (subst (λ (limit : ℕ). HoldsPart limit 0 (written_bodies shape (event_step shape (play_of setup c.loop-lined.yielded).run c.in-Some.lined.event).run) (g.D.LogDisk.seen c.play_event.new.disk)) before.limit (c.in_err-after.ensures.stopped shape (play_of setup c.loop-lined.yielded).run before.stands)))
 
 pub returns-in_err-tell-clause-stopped : goal.returns-in_err-tell-clause-stopped
 returns-in_err-tell-clause-stopped g c =
@@ -60,7 +60,7 @@ returns-in_err-tell-clause-stopped g c =
     let whole = whole_more c.args.events c.loop-lined.yielded _ _ c.in-Some.lined before.whole c.in-Some.ensures.steps.0 in
     let room = room_for script c.loop-lined.site _ c.loop-lined.yielded c.in-Some.lined c.next.new.self.rest.items c.requires.legal (before.whole ∙ ap (λ (events : List LinedEvent). c.loop-lined.yielded ++ events) c.in-Some.ensures.steps.0) before.stands in
     let played = c.in_ok-after.ensures.played shape (play_of setup c.loop-lined.yielded).run before.stands room in
-    err_anyway c.from_residual-in_err-tell.result _ (λ fault. stopped_behind script c.in_ok-after.after _ fault (c.loop-lined.yielded ++ c.in-Some.lined ∷ []) c.next.new.self.rest.items whole
+    err_anyway c.from_residual-in_err-tell.result _ (λ fault. stopped_behind script setup.a.limit c.in_ok-after.after _ (c.loop-lined.yielded ++ c.in-Some.lined ∷ []) c.next.new.self.rest.items (c.in_ok-after.ensures.limit ∙ before.limit) whole
     (stands_more setup c.loop-lined.yielded c.in-Some.lined c.in_ok-after.after _ played.0))
 
 pub loop-lined-preserved : goal.loop-lined-preserved
@@ -75,15 +75,9 @@ loop-lined-preserved g c =
       whole = whole_more c.args.events c.loop-lined.yielded _ _ c.in-Some.lined before.whole c.in-Some.ensures.steps.0;
       stands = stands_more setup c.loop-lined.yielded c.in-Some.lined c.in_ok-after.after _ played.0;
       told = c.in_ok-tell.ensures ∙ text_more setup c.loop-lined.yielded c.in-Some.lined c.in_ok-after.outcome c.args.text.now.items _ played.1 before.told;
-      others = λ other not_one. c.in_ok-after.ensures.others other not_one ∙ before.others other not_one;
+      limit = c.in_ok-after.ensures.limit ∙ before.limit;
       later = omega (arith, before.later, c.in_ok-after.ensures.cause.later);
     }
 
-pub returns-in_err-tell-clause-others : goal.returns-in_err-tell-clause-others
-returns-in_err-tell-clause-others g c = λ other not_one. c.in_ok-after.ensures.others other not_one ∙ c.loop-lined.invariant.others other not_one ∙ c.in_ok-site.ensures.others other not_one
-
 pub returns-clause-played : goal.returns-clause-played
 returns-clause-played g c = played_whole c.args.setup.now c.args.events c.loop-lined.yielded _ c.loop-lined.site _ c.loop-lined.invariant.whole (nil_from_length _ (sym c.loop-lined.lined-iterator.rest.ok.0 ∙ c.in-None.ensures.steps.0)) c.loop-lined.invariant.stands
-
-pub returns-clause-others : goal.returns-clause-others
-returns-clause-others g c = λ other not_one. c.loop-lined.invariant.others other not_one ∙ c.in_ok-site.ensures.others other not_one

@@ -13,16 +13,16 @@ returns-in-Step-clause-played g c = if_ok_more c.step.result _ _ c.step.ensures.
     (meets shape run held (subst (λ (turn : Turn). HasRoomForTurn shape c.args.site turn) (sym c.in-Step.ensures) room)))
 
 pub returns-in-Step-clause-stopped : goal.returns-in-Step-clause-stopped
-returns-in-Step-clause-stopped g c = if_err_more c.step.result _ _ c.step.ensures.stopped (λ fault leaves shape run held.
-    stopped_as shape run.written _ _ _ fault (turn_as shape run c.args.event (Step c.in-Step.event) c.in-Step.ensures) (leaves shape run held))
+returns-in-Step-clause-stopped g c = if_err_more c.step.result _ _ c.step.ensures.stopped (λ _ leaves shape run held.
+    stopped_as shape _ run.written _ _ _ (turn_as shape run c.args.event (Step c.in-Step.event) c.in-Step.ensures) (leaves shape run held))
 
 pub returns-in-Log-clause-played : goal.returns-in-Log-clause-played
 returns-in-Log-clause-played g c = if_ok_more c.log.result _ _ c.log.ensures.played (λ pair meets shape run held room.
     stepped_as shape _ _ pair.0 _ pair.1 (turn_as shape run c.args.event Log c.in-Log.ensures) (meets shape run held))
 
 pub returns-in-Log-clause-stopped : goal.returns-in-Log-clause-stopped
-returns-in-Log-clause-stopped g c = if_err_more c.log.result _ _ c.log.ensures.stopped (λ fault leaves shape run held.
-    stopped_as shape 0 _ _ _ fault (turn_as shape run c.args.event Log c.in-Log.ensures) (leaves shape run held))
+returns-in-Log-clause-stopped g c = if_err_more c.log.result _ _ c.log.ensures.stopped (λ _ leaves shape run held.
+    stopped_as shape _ 0 _ _ _ (turn_as shape run c.args.event Log c.in-Log.ensures) (leaves shape run held))
 
 pub returns-in-Idle-clause-played : goal.returns-in-Idle-clause-played
 returns-in-Idle-clause-played g c = λ shape run held room.

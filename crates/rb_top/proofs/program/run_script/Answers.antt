@@ -51,24 +51,24 @@ run-requires-clause-legal g c = legal_script _ c.in-Ok-parse.parsed c.in-Ok-pars
 
 pub returns-in-Err-NoMemory-run-clause-want_of_memory_leaves_a_part : goal.returns-in-Err-NoMemory-run-clause-want_of_memory_leaves_a_part
 returns-in-Err-NoMemory-run-clause-want_of_memory_leaves_a_part g c = λ _.
-    inr (stopped_running _ _ _ _ c.in-Ok-parse.parsed _ _ (λ _. c.in-Err-NoMemory-run.field-0-is) (λ same. absurd cc)
+    inr (stopped_running _ _ _ _ c.in-Ok-parse.parsed _ (λ same. absurd cc)
     (read_whole _ _ _ _ c.in-Ok.ensures.ok.0 c.in-Ok.ensures.ok.1 (sym (ap script_of c.as_slice.ensures) ∙ c.in-Ok-parse.ensures.ok)) c.in-Ok.ensures.ok.1 c.in-Err-NoMemory-run.ensures.err)
 
 pub returns-in-Err-DiskFault-clause-a_fault_leaves_a_part : goal.returns-in-Err-DiskFault-clause-a_fault_leaves_a_part
 returns-in-Err-DiskFault-clause-a_fault_leaves_a_part g c = λ _.
-    stopped_running _ _ _ _ c.in-Ok-parse.parsed _ _ (λ same. absurd cc) (λ same. absurd cc)
+    stopped_running _ _ _ _ c.in-Ok-parse.parsed _ (λ same. absurd cc)
     (read_whole _ _ _ _ c.in-Ok.ensures.ok.0 c.in-Ok.ensures.ok.1 (sym (ap script_of c.as_slice.ensures) ∙ c.in-Ok-parse.ensures.ok)) c.in-Ok.ensures.ok.1 c.in-Err-DiskFault.ensures.err
 
 pub returns-in-Err-Failed-write_all-clause-a_fault_leaves_a_part : goal.returns-in-Err-Failed-write_all-clause-a_fault_leaves_a_part
 returns-in-Err-Failed-write_all-clause-a_fault_leaves_a_part g c = λ _.
-    stopped_printing _ _ _ _ _ c.in-Ok-parse.parsed _ (legal_script _ c.in-Ok-parse.parsed c.in-Ok-parse.ensures.ok) (λ disk. disk)
+    stopped_printing _ _ _ _ _ c.in-Ok-parse.parsed _ (λ disk. disk)
     (read_whole _ _ _ _ c.in-Ok.ensures.ok.0 c.in-Ok.ensures.ok.1 (sym (ap script_of c.as_slice.ensures) ∙ c.in-Ok-parse.ensures.ok)) c.in-Ok.ensures.ok.1
     (subst (λ (report : List ℕ). GrowsByPrefix (g.O.Sink.held c.args.out.now) (g.O.Sink.held c.write_all.new.out) report) (c.as_slice-2.ensures ∙ c.in-Ok-run.ensures.ok.0) c.in-Err-Failed-write_all.ensures.prefix)
     c.in-Ok-run.ensures.ok.1
 
 pub returns-clause-want_of_memory_leaves_a_part : goal.returns-clause-want_of_memory_leaves_a_part
 returns-clause-want_of_memory_leaves_a_part g c = λ _.
-    inr (stopped_printing _ _ _ _ _ c.in-Ok-parse.parsed _ (legal_script _ c.in-Ok-parse.parsed c.in-Ok-parse.ensures.ok) (λ disk. disk)
+    inr (stopped_printing _ _ _ _ _ c.in-Ok-parse.parsed _ (λ disk. disk)
     (read_whole _ _ _ _ c.in-Ok.ensures.ok.0 c.in-Ok.ensures.ok.1 (sym (ap script_of c.as_slice.ensures) ∙ c.in-Ok-parse.ensures.ok)) c.in-Ok.ensures.ok.1
     (subst (λ (report : List ℕ). GrowsByPrefix (g.O.Sink.held c.args.out.now) (g.O.Sink.held c.write_all.new.out) report) (c.as_slice-2.ensures ∙ c.in-Ok-run.ensures.ok.0) c.in-Err-NoMemory-write_all.ensures.prefix)
     c.in-Ok-run.ensures.ok.1)

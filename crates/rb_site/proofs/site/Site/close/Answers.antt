@@ -5,21 +5,21 @@ use Rattle.rb_site.proofs.site.Site.close.Goals as goal
 
 pub close-requires-2 : goal.close-requires-2
 close-requires-2 c =
-    let (file, shape, run, held, none, room) = c.requires.fits in
-    record { room = can_close shape c.args.gci c.args.self file run _ held none (c.open.ensures ∙ ap (λ (h : Hand). h.opened) c.in-Some.ensures.closed) }
+    let (seen, shape, run, held, none, room) = c.requires.fits in
+    record { room = can_close shape c.args.gci c.args.self seen run _ held none (c.open.ensures ∙ ap (λ (h : Hand). h.opened) c.in-Some.ensures.closed) }
 
 pub send_all-requires : goal.send_all-requires
 send_all-requires c =
-    let (file, shape, run, held, none, room) = c.requires.fits in record {
-      senders = closing_from shape c.args.gci c.args.self file run c.prev-prev.result c.open.result c.in_ok-nodes.messages.items held
+    let (seen, shape, run, held, none, room) = c.requires.fits in record {
+      senders = closing_from shape c.args.gci c.args.self seen run c.prev-prev.result c.open.result c.in_ok-nodes.messages.items held
           c.prev-prev.ensures
           (c.open.ensures ∙ ap (λ (h : Hand). h.opened) c.in-Some.ensures.closed)
           (λ b s holds. c.in_ok-nodes.ensures.sent b s holds);
     }
 
 pub returns-clause-closed : goal.returns-clause-closed
-returns-clause-closed c = λ shape file run held.
-    let after = site_closed shape c.args.gci c.args.self _ file run c.prev-prev.result c.open.result c.in_ok-nodes.messages.items held
+returns-clause-closed c = λ shape seen run held.
+    let after = site_closed shape c.args.gci c.args.self _ seen run c.prev-prev.result c.open.result c.in_ok-nodes.messages.items held
     c.prev-prev.ensures
     (c.open.ensures ∙ ap (λ (h : Hand). h.opened) c.in-Some.ensures.closed)
     refl refl c.in-Some.ensures.closed refl
@@ -28,4 +28,4 @@ returns-clause-closed c = λ shape file run held.
     (λ ss ds fa box. c.in_ok-send_all.ensures.sent ss ds fa box)
     c.in_ok-send_all.ensures.nodes
     refl refl refl refl in
-    close_is shape c.args.gci _ file run c.in-Some.epoch c.len-sent.result after (c.in-Some.ensures.some ∙ ap (λ (h : Hand). h.opened) held.clock) c.len-sent.ensures
+    close_is shape c.args.gci _ seen run c.in-Some.epoch c.len-sent.result after (c.in-Some.ensures.some ∙ ap (λ (h : Hand). h.opened) held.clock) c.len-sent.ensures

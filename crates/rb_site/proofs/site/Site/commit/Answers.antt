@@ -13,23 +13,23 @@ use Rattle.rb_site.proofs.site.Site.commit.Goals as goal
 
 pub send_parts-requires : goal.send_parts-requires
 send_parts-requires c =
-    let (file, shape, run, operations, held, none, fits, free, is) = c.requires.accepted in record {
-      room = can_send shape c.args.self file run operations c.as_slice-2.result.now held none fits (c.as_slice-2.ensures ∙ is);
-      owners = owners_in shape c.args.self file run held;
+    let (seen, shape, run, operations, held, none, fits, free, is) = c.requires.accepted in record {
+      room = can_send shape c.args.self seen run operations c.as_slice-2.result.now held none fits (c.as_slice-2.ensures ∙ is);
+      owners = owners_in shape c.args.self seen run held;
     }
 
 pub store-requires : goal.store-requires
 store-requires c =
-    let (file, shape, run, operations, held, none, fits, free, is) = c.requires.accepted in
-    record { storable = can_store shape c.args.self file run operations c.as_slice-3.result.now held fits free (c.as_slice-3.ensures ∙ is) }
+    let (seen, shape, run, operations, held, none, fits, free, is) = c.requires.accepted in
+    record { storable = can_store shape c.args.self seen run operations c.as_slice-3.result.now held fits free (c.as_slice-3.ensures ∙ is) }
 
 pub returns-clause-committed : goal.returns-clause-committed
-returns-clause-committed c = λ shape file run operations held fits free is.
-    let after = site_committed shape c.args.self _ file run operations c.args.changes held fits free is refl refl c.in-Some.ensures.drawn
+returns-clause-committed c = λ shape seen run operations held fits free is.
+    let after = site_committed shape c.args.self _ seen run operations c.args.changes held fits free is refl refl c.in-Some.ensures.drawn
     (λ t k. c.in_ok-store.ensures.rows t k ∙ ap (λ (cs : List Change). row_left (of_key t k cs) (rows_in c.args.self.tables t k)) c.as_slice-3.ensures)
     c.store.ensures.count
     (λ b s holds. subst (λ (cs : List Change). HoldsNodes c.in_ok-nodes.nodes b (with_changes cs s)) c.as_slice-2.ensures (c.in_ok-nodes.ensures.holds b s holds))
     (λ b s ss ds fa holds box. subst (λ (cs : List Change). HoldsSent c.send_parts.new.outbox (ss ++ map (sent_by (owner_in s.members)) (parts_sent b s.opened (s.changes s.opened) cs)) ds fa) c.as_slice-2.ensures (c.in_ok-nodes.ensures.sent b s ss ds fa holds box))
     c.in_ok-nodes.ensures.senders
     refl refl refl (ap (λ (cs : List Change). c.args.self.made + length cs) c.as_slice.ensures) in
-    (after, outcome_is shape _ file run operations c.in-Some.transid c.len-sent.result c.open-epoch.result after (c.in-Some.ensures.some ∙ sym (ap (λ (h : Hand). h.drawn) c.in-Some.ensures.drawn)) c.open-epoch.ensures c.len-sent.ensures)
+    (after, outcome_is shape _ seen run operations c.in-Some.transid c.len-sent.result c.open-epoch.result after (c.in-Some.ensures.some ∙ sym (ap (λ (h : Hand). h.drawn) c.in-Some.ensures.drawn)) c.open-epoch.ensures c.len-sent.ensures)

@@ -1,21 +1,24 @@
-use Rattle.std.proofs.Common.{◌≡◌, refl, ap, subst, ◌∙◌, ℕ, ◌*◌}
-use Rattle.rb_commit.specs.Hand.{Hand}
-use Rattle.rb_journal_defs.specs.Clock.{first_epoch}
-use Rattle.rb_play_defs.specs.Step.{nodes_at_first}
-use Rattle.rb_site.specs.Nodes.{nothing_done, HoldsNodes}
-use Rattle.rb_site.proofs.BeginLaws.{site_begins, start_length, no_rows, as_many, each_some}
+use Rattle.std.proofs.Common.{◌∙◌, ap}
+use Rattle.std.specs.Prelude.{Err}
+use Rattle.rb_inject.specs.declared.fault.InjectFault.TheVariants as InjectFault
+use Rattle.rb_inject.specs.declared.injector.Injector.{Injector}
+use Rattle.std.proofs.lemmas.Result.{err_from_is_err_and}
+use Rattle.rb_site.proofs.BeginLaws.{on_err, empty_is_image, setup_begins, err_same}
 use Rattle.rb_site.proofs.site.Site.create.Goals as goal
 
-pub returns-clause-begun : goal.returns-clause-begun
-returns-clause-begun g c =
-    let opened : c.open.result.0 ≡ first_epoch = c.open.ensures ∙ ap (λ (h : Hand). h.opened) c.new-clock.ensures in
-    site_begins c.args.schemas.now c.args.groups c.args.replicas _ (g.D.LogDisk.seen c.begin_file.new.disk 1) c.requires.declared c.requires.some refl c.in_ok-mapped.ensures c.new-clock.ensures
-    (no_rows c.in_ok-rows.rows c.in_ok-rows.ensures.empty) (c.in_ok-rows.ensures.count ∙ as_many c.args.schemas.now)
-    (subst (λ (n : ℕ). HoldsNodes c.in_ok-nodes.nodes (c.args.groups * c.args.replicas) (nothing_done n (nodes_at_first c.args.groups c.args.replicas))) opened c.in_ok-nodes.ensures.holds)
-    refl c.in_ok-outbox.ensures.0 c.in_ok-outbox.ensures.1 c.in_ok-events.ensures.stands refl refl c.in_ok-length.ensures.ok.0 c.in_ok-length.ensures.ok.1 start_length refl
+pub returns-in_err-rest-clause-stopped : goal.returns-in_err-rest-clause-stopped
+returns-in_err-rest-clause-stopped g c = on_err c.from_residual.result (λ empty. empty_is_image c.args.setup.limit (g.D.LogDisk.seen c.args.disk.now) empty)
 
-pub new-requires-2-clause-some : goal.new-requires-2-clause-some
-new-requires-2-clause-some g c = each_some c.args.groups c.args.replicas c.requires.some
+pub returns-in_err-events-clause-stopped : goal.returns-in_err-events-clause-stopped
+returns-in_err-events-clause-stopped g c = on_err c.from_residual-in_err-events.result (λ empty. empty_is_image c.args.setup.limit (g.D.LogDisk.seen c.args.disk.now) empty)
 
-pub new-requires-2-clause-opened : goal.new-requires-2-clause-opened
-new-requires-2-clause-opened g c = c.open.ensures ∙ ap (λ (h : Hand). h.opened) c.new-clock.ensures
+pub returns-in_err-tables-clause-stopped : goal.returns-in_err-tables-clause-stopped
+returns-in_err-tables-clause-stopped g c = on_err c.from_residual-in_err-tables.result (λ empty. empty_is_image c.args.setup.limit (g.D.LogDisk.seen c.args.disk.now) empty)
+
+pub create-requires : goal.create-requires
+create-requires g c = record { setup = setup_begins c.args.schemas.now c.args.setup.groups c.args.setup.replicas c.args.setup.limit c.in_ok-rest.rest c.in_ok-tables.tables c.in_ok-rest.ensures.begun c.requires.limit c.requires.tables c.in_ok-rest.ensures.limit (c.in_ok-tables.ensures ∙ c.as_slice.ensures) }
+
+pub returns-in_err-injector-clause-not_empty : goal.returns-in_err-injector-clause-not_empty
+returns-in_err-injector-clause-not_empty g c =
+    let p = err_from_is_err_and c.from_residual-in_err-injector.result c.from_residual-in_err-injector.ensures.1 in
+    λ file size is. c.create.ensures.not_empty file size (err_same Injector c.from_residual-in_err-injector.result _ (InjectFault.NotEmpty file size) (p.1 ∙ ap Err p.2) is c.create.result c.in_err-injector.was)

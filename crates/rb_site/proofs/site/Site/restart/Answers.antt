@@ -6,22 +6,22 @@ use Rattle.rb_site.proofs.site.Site.restart.Goals as goal
 
 pub restart-requires : goal.restart-requires
 restart-requires c =
-    let (file, shape, run, held, none, below, room) = c.requires.fits in
-    record { ready = can_restart shape c.args.self file run c.args.node held below room }
+    let (seen, shape, run, held, none, below, room) = c.requires.fits in
+    record { ready = can_restart shape c.args.self seen run c.args.node held below room }
 
 pub unreachable-requires : goal.unreachable-requires
 unreachable-requires c =
-    let (file, shape, run, held, none, below, room) = c.requires.fits in
+    let (seen, shape, run, held, none, below, room) = c.requires.fits in
     (subst (RefusesRestart c.args.self.nodes c.restart.new.self c.args.node) c.in-Err-NodeDown.field-0-is (λ b s holds. c.in-Err-NodeDown.ensures.refused b s holds) _ _ held.nodes).1
 
 pub returns-clause-restarted : goal.returns-clause-restarted
-returns-clause-restarted c = λ shape file run held none.
+returns-clause-restarted c = λ shape seen run held none.
     let (written, first, before, stood, whole, known, room) = c.requires.fits in
-    let below = still_below first shape c.args.self written file before run c.args.node stood known held in
+    let below = still_below first shape c.args.self written seen before run c.args.node stood known held in
     elim c.match-restart.branch [
-      | in-Ok w ↦ at_branch shape file (restart_step c.args.node run) _ _ _ c.match-restart.outcome refl w.outcome-is
-          (site_restarted shape c.args.self _ file run c.args.node w.in-Ok.since held below (λ b s holds. w.in-Ok.ensures.restarted b s holds) refl)
-      | in-Err-NodeUp w ↦ at_branch shape file (restart_step c.args.node run) _ _ _ c.match-restart.outcome refl w.outcome-is
-          (site_was_up shape c.args.self _ file run c.args.node w.in-Err-NodeUp.node held
+      | in-Ok w ↦ at_branch shape seen (restart_step c.args.node run) _ _ _ c.match-restart.outcome refl w.outcome-is
+          (site_restarted shape c.args.self _ seen run c.args.node w.in-Ok.since held below (λ b s holds. w.in-Ok.ensures.restarted b s holds) refl)
+      | in-Err-NodeUp w ↦ at_branch shape seen (restart_step c.args.node run) _ _ _ c.match-restart.outcome refl w.outcome-is
+          (site_was_up shape c.args.self _ seen run c.args.node w.in-Err-NodeUp.node held
           (subst (RefusesRestart c.args.self.nodes c.restart.new.self c.args.node) w.in-Err-NodeUp.field-0-is (λ b s holds. w.in-Err-NodeUp.ensures.refused b s holds)) refl)
     ]

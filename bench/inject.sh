@@ -1,0 +1,61 @@
+#!/bin/sh
+# Runs the program on scripts whose epochs are all written to the log: 1,000 epochs of 100 changes and 49,000 epochs of one change,
+# with binlog files of 512 bytes, so that each epoch or every second one rotates the log, and of 67,108,864 bytes. It prints how many
+# epochs and bytes of log that is in a second, and holds the time for each epoch to a bound on its growth with the log.
+# An epoch makes six calls of the log device: its bytes are written to the last binlog file and synced, its record is written to the
+# index and synced, and so is its gate. With a rotation there are four more: a rotate event and the next file's start, each written
+# and synced. The program does not tell how many it made; this is read off the code.
+# Usage: bench/inject.sh [PROGRAM]; by default the program that ./rb builds. It needs python3 and GNU time.
+# It ends with 0 where the bounds hold, with 1 where one is broken or a report is wrong, and with 2 where it cannot measure.
+here=$(cd "$(dirname "$0")" && pwd) || exit 2
+PYTHONPATH=$here exec python3 - "${1:-$here/../crates/rb_cli/out/rb_cli}" <<'PYTHON'
+import sys
+import tempfile
+from measure import Model, judge, memory_of, program_and_timer, seconds_of
+
+MEGABYTE = 1_000_000
+EPOCHS_OF = {100: 1_000, 1: 49_000}     # by the changes of an epoch
+LIMITS = (512, 67_108_864)
+PART = 10
+LOG_EACH = 1_000
+
+MOST_RATIO = 1.3
+
+
+def model_of(epochs, changes, limit):
+    """A script of so many epochs, each of one transaction that inserts so many rows. All are written, a thousand at a time."""
+    model = Model(limit=limit)
+    for at in range(epochs):
+        model.insert_all({key: 3 * key for key in range(at * changes, (at + 1) * changes)})
+        model.close()
+        if at % LOG_EACH == LOG_EACH - 1 or at == epochs - 1:
+            model.log()
+    return model
+
+
+def measured(program, timer, folder, epochs, changes, limit):
+    """The time for each epoch of such a script, at best."""
+    model = model_of(epochs, changes, limit)
+    script = f"{folder}/script"
+    with open(script, "w") as file:
+        file.write(model.script())
+    seconds = seconds_of(program, script, model.report())
+    peak = memory_of(timer, program, script)
+    print(f"{epochs:,} epochs of {changes}, limit {limit:,}: {epochs / seconds:,.0f} epochs/s, "
+          f"{model.log_bytes() / MEGABYTE / seconds:.1f} MB/s of log, {model.log_bytes():,} bytes of log, peak memory {peak:,} bytes")
+    return seconds / epochs
+
+
+def main():
+    program, timer = program_and_timer()
+    holds = []
+    with tempfile.TemporaryDirectory() as folder:
+        for changes, epochs in EPOCHS_OF.items():
+            for limit in LIMITS:
+                part, whole = (measured(program, timer, folder, count, changes, limit) for count in (epochs // PART, epochs))
+                holds.append(judge("ratio of the times for each epoch", whole / part, MOST_RATIO, ".2f", ""))
+    sys.exit(0 if all(holds) else 1)
+
+
+main()
+PYTHON

@@ -1,0 +1,178 @@
+ghost use Rattle.std.specs.Prelude.{◌≡◌, ◌<◌, ◌*◌, ◌++◌, length, take, drop, IfOk, OnOk};
+ghost use Rattle.rb_log_defs.specs.File.{base_name as base_of, file_name as name_of};
+ghost use Rattle.rb_text_defs.specs.Report.{letter_of};
+ghost use Rattle.rb_logs.specs.Dump.{bytes_line, bytes_text, dump_text, file_text, heading as heading_of, log_name as name_in_log, offset_text, site_text};
+
+use byteorder::{BigEndian, ByteOrder};
+use rb_base::{Bytes, NoMemory, SiteId};
+use rb_disk::{LogDisk, MemoryDisk};
+use std::alloc::Global;
+
+/// How many bytes a line shows at most.
+const LINE_SIZE: usize = 32;
+
+/// How many digits the number in a binlog file's name has at least.
+const LEAST_DIGITS: usize = 6;
+
+/// The files of both sites as text, site A's first: for each file that is not empty its name and length, and its bytes in
+/// hexadecimal. It fails only for want of memory.
+pub(crate) fn dump(
+    alloc: Global,
+    disk_a: &MemoryDisk,
+    disk_b: &MemoryDisk,
+) -> Result<Bytes, NoMemory>
+    ensures { IfOk result (λ text. text ≡ dump_text disk_a.now disk_b.now) }
+{
+    let mut text = Vec::new(alloc);
+    put_site(alloc, &mut text, SiteId::A, disk_a)?;
+    put_site(alloc, &mut text, SiteId::B, disk_b)?;
+    Ok(Bytes::from_vec(text))
+}
+
+// Appends the files of a site, file 0 first.
+#[tactic(auto, using(crate::proofs::TextLaws::number_put))]
+fn put_site(
+    alloc: Global,
+    text: &mut Vec<u8>,
+    site: SiteId,
+    disk: &MemoryDisk,
+) -> Result<(), NoMemory>
+    ensures { OnOk result (text.new.items ≡ text.old.items ++ site_text site disk.now) }
+{
+    for number in 0..disk.files() {
+        put_file(alloc, text, site, number, disk.file(number))?;
+    }
+    Ok(())
+}
+
+// Appends a file; of an empty one nothing.
+fn put_file(
+    alloc: Global,
+    text: &mut Vec<u8>,
+    site: SiteId,
+    number: u32,
+    bytes: &[u8],
+) -> Result<(), NoMemory>
+    ensures { OnOk result (text.new.items ≡ text.old.items ++ file_text site number bytes.now) }
+{
+    if bytes.is_empty() {
+        return Ok(());
+    }
+    put_heading(alloc, text, site, number, bytes.len())?;
+    put_bytes(alloc, text, bytes)?;
+    Ok(())
+}
+
+// Appends the line above a file's bytes.
+fn put_heading(
+    alloc: Global,
+    text: &mut Vec<u8>,
+    site: SiteId,
+    number: u32,
+    size: usize,
+) -> Result<(), NoMemory>
+    ensures { OnOk result (text.new.items ≡ text.old.items ++ heading_of site number size) }
+{
+    text.extend_from_slice(b"file ")?;
+    text.extend_from_slice(letter(site))?;
+    text.extend_from_slice(b" ")?;
+    text.extend_from_slice(number.to_string(alloc)?.as_bytes())?;
+    text.extend_from_slice(b" name=")?;
+    put_name(alloc, text, site, number)?;
+    text.extend_from_slice(b" length=")?;
+    text.extend_from_slice(size.to_string(alloc)?.as_bytes())?;
+    text.push(b'\n')?;
+    Ok(())
+}
+
+// The letter of a site.
+fn letter(site: SiteId) -> &'static [u8]
+    ensures { result.now ≡ letter_of site }
+{
+    match site {
+        SiteId::A => b"A",
+        SiteId::B => b"B",
+    }
+}
+
+// Appends what the file of this number is called.
+fn put_name(alloc: Global, text: &mut Vec<u8>, site: SiteId, number: u32) -> Result<(), NoMemory>
+    ensures { OnOk result (text.new.items ≡ text.old.items ++ name_in_log site number) }
+{
+    if number == 0 {
+        text.extend_from_slice(b"ndb_binlog_index")?;
+        return Ok(());
+    }
+    put_file_name(alloc, text, site, number)?;
+    Ok(())
+}
+
+// Appends the name of a binlog file: its site's, and the number in at least six digits.
+fn put_file_name(
+    alloc: Global,
+    text: &mut Vec<u8>,
+    site: SiteId,
+    number: u32,
+) -> Result<(), NoMemory>
+    ensures { OnOk result (text.new.items ≡ text.old.items ++ name_of site number) }
+{
+    let digits = number.to_string(alloc)?;
+    let zeros = vec![in alloc; b'0'; LEAST_DIGITS.saturating_sub(digits.len())]?;
+    text.extend_from_slice(base_name(site))?;
+    text.extend_from_slice(&zeros)?;
+    text.extend_from_slice(digits.as_bytes())?;
+    Ok(())
+}
+
+// What the names of a site's binlog files begin with.
+fn base_name(site: SiteId) -> &'static [u8]
+    ensures { result.now ≡ base_of site }
+{
+    match site {
+        SiteId::A => b"a-bin.",
+        SiteId::B => b"b-bin.",
+    }
+}
+
+// Appends these bytes, in lines.
+#[tactic(auto, using(crate::proofs::TextLaws::number_put))]
+fn put_bytes(alloc: Global, text: &mut Vec<u8>, bytes: &[u8]) -> Result<(), NoMemory>
+    ensures { OnOk result (text.new.items ≡ text.old.items ++ bytes_text bytes.now) }
+{
+    for number in 0..bytes.len().div_ceil(LINE_SIZE) {
+        put_line(alloc, text, bytes, number)?;
+    }
+    Ok(())
+}
+
+// Appends the line of this number: where it begins, and the bytes from there on.
+#[tactic(auto, using(crate::proofs::TextLaws::line_put))]
+fn put_line(alloc: Global, text: &mut Vec<u8>, bytes: &[u8], number: usize) -> Result<(), NoMemory>
+    requires { number * 32 < length bytes.now }
+    ensures { OnOk result (text.new.items ≡ text.old.items ++ bytes_line bytes.now number) }
+{
+    put_offset(alloc, text, (number * LINE_SIZE) as u64)?;
+    text.push(b' ')?;
+    text.extend_from_slice(hex::encode(alloc, shown(bytes, number))?.as_bytes())?;
+    text.push(b'\n')?;
+    Ok(())
+}
+
+// The bytes of the line of this number.
+fn shown(bytes: &[u8], number: usize) -> &[u8]
+    requires { number * 32 < length bytes.now }
+    ensures { result.now ≡ take 32 (drop (number * 32) bytes.now) }
+{
+    let rest = &bytes[number * LINE_SIZE..];
+    &rest[..LINE_SIZE.min(rest.len())]
+}
+
+// Appends an offset as eight digits.
+fn put_offset(alloc: Global, text: &mut Vec<u8>, offset: u64) -> Result<(), NoMemory>
+    ensures { OnOk result (text.new.items ≡ text.old.items ++ offset_text offset) }
+{
+    let mut bytes = [0u8; 8];
+    BigEndian::write_u64(&mut bytes, offset);
+    text.extend_from_slice(hex::encode(alloc, &bytes[4..])?.as_bytes())?;
+    Ok(())
+}

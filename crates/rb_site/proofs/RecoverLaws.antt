@@ -1,0 +1,165 @@
+-- A site whose injector stopped and begins again.
+use Rattle.std.proofs.Common.{◌≡◌, ℕ, ◌<◌, ◌≤◌, List, [], ◌++◌, length, refl, sym, ap, subst, ◌∙◌, arith}
+use Rattle.std.specs.Prelude.{All, true, false, is_some, Option, Some, None}
+use Rattle.std.specs.List.{AllByRecursion}
+use Rattle.std.specs.Option.{option_map_or}
+use Rattle.std.proofs.lemmas.List.{append-nil}
+use Rattle.rb_base.specs.declared.site.SiteId.{SiteId}
+use Rattle.rb_base.specs.declared.site.SiteId.TheVariants.{A}
+use Rattle.rb_base.specs.declared.schema.Mapped.{Mapped}
+use Rattle.rb_base.specs.declared.epoch.Epoch.{Epoch}
+use Rattle.rb_log_defs.specs.Fits.{CanBeMapped}
+use Rattle.rb_device_defs.specs.Image.{IsLogImage}
+use Rattle.rb_device_defs.proofs.ImageLaws.{whole_is_image}
+use Rattle.rb_commit.specs.Hand.{Hand}
+use Rattle.rb_base.specs.declared.message.Sent.{Sent}
+use Rattle.rb_base.specs.declared.outcome.Outcome.TheVariants as outcomes
+use Rattle.rb_journal_defs.specs.Body.{Shape}
+use Rattle.rb_journal_defs.proofs.Counts.{epoch_length}
+use Rattle.rb_evbuf.specs.Buffer.{StandsFor}
+use Rattle.rb_evbuf.specs.declared.buffer.EventBuffer.{EventBuffer}
+use Rattle.rb_inject.specs.Injector as inject
+use Rattle.rb_inject.specs.Injector.{IsLogSetup, CanBeRecovered}
+use Rattle.rb_inject.specs.declared.injector.Injector.{Injector}
+use Rattle.rb_play_defs.specs.Step.{Progress, failed_in, acknowledged_epoch, sent_by_owners, sent_to_injector, with_new_injector, injector_step, resend_step, written_bodies}
+use Rattle.rb_play_defs.proofs.Sounds.{sound_resend}
+use Rattle.rb_play_defs.proofs.Restarts.{sound_injector}
+use Rattle.rb_site.specs.Nodes as site
+use Rattle.rb_site.specs.Nodes.{Buffered, HoldsNodes, CanCount, CanResend}
+use Rattle.rb_site.specs.Outbox.{HoldsSent, count_in, nodes_in}
+use Rattle.rb_site.specs.Site.{IsSite, SameSetup, buffered_by, loss_of, opened_of, limit_of, setup_of}
+use Rattle.rb_site.specs.Stepped.{IsStoppedSite, HasSameSetup, rest_of, site_of}
+use Rattle.rb_site.specs.declared.site.Loss.{Loss}
+use Rattle.rb_site.specs.declared.site.Site.{Site}
+use Rattle.rb_site.specs.declared.stepped.StoppedSite.{StoppedSite}
+use Rattle.rb_site.proofs.AgainLaws.{sent_resending, resend_senders}
+use Rattle.rb_site.proofs.LogLaws.{log_named, written_epoch, can_be_recovered}
+use Rattle.rb_site.proofs.StandLaws.{site_stands}
+
+-- what is not there
+pub there_or_none : {X : Type 0} → (found : Option X) → is_some found ≡ false → found ≡ None
+there_or_none None none = refl
+there_or_none (Some x) none = absurd (let no : true ≡ false = none in cc)
+
+-- what the owners send again to a new injector
+again_where : (shape : Shape) (run : Progress) (lost : Option (ℕ × ℕ)) → run.lost ≡ lost → sent_to_injector shape run ≡ option_map_or (λ loss. []) lost (sent_by_owners shape run)
+again_where shape run lost is = ap (λ (l : Option (ℕ × ℕ)). option_map_or (λ loss. []) l (sent_by_owners shape run)) is
+
+-- what a resend needs
+pub rest_can_resend : (shape : Shape) (rest : StoppedSite) (run : Progress) → IsStoppedSite shape rest run → run.lost ≡ None → CanResend rest.nodes
+rest_can_resend shape rest run held none = (shape.buckets, buffered_by shape run, held.nodes, held.covered none, counted)
+  where
+    counted : CanCount (buffered_by shape run)
+    counted epoch = omega (arith, epoch_length shape.site epoch run.journal, held.made, held.few)
+
+pub none_lost_of : (shape : Shape) (rest : StoppedSite) (run : Progress) → IsStoppedSite shape rest run → rest.lost ≡ None → run.lost ≡ None
+none_lost_of shape rest run held none = sym held.lost ∙ ap loss_of none
+
+resending_is : (shape : Shape) (rest : StoppedSite) (run : Progress) (messages : List Sent) → IsStoppedSite shape rest run →
+    ((b : ℕ) (s : Buffered) → HoldsNodes rest.nodes b s → messages ≡ site.sent_at_resend b s (length rest.nodes.groups.items)) → messages ≡ sent_by_owners shape run
+resending_is shape rest run messages held sends = sends shape.buckets (buffered_by shape run) held.nodes ∙ sent_resending shape run rest.nodes held.nodes
+
+-- who sends is one of the nodes
+pub rest_senders : (shape : Shape) (rest : StoppedSite) (run : Progress) (messages : List Sent) → IsStoppedSite shape rest run →
+    ((b : ℕ) (s : Buffered) → HoldsNodes rest.nodes b s → messages ≡ site.sent_at_resend b s (length rest.nodes.groups.items)) → AllByRecursion (λ message. message.sender < nodes_in rest.outbox) messages
+rest_senders shape rest run messages held sends =
+    subst (λ (n : ℕ). AllByRecursion (λ (message : Sent). message.sender < n) messages) (sym held.senders)
+    (subst (AllByRecursion (λ (message : Sent). message.sender < shape.buckets)) (sym (resending_is shape rest run messages held sends)) (resend_senders shape run rest.nodes held.nodes))
+
+-- all owners sent again
+pub rest_resent : (shape : Shape) (old new : StoppedSite) (run : Progress) (messages : List Sent) → IsStoppedSite shape old run → old.lost ≡ None →
+    ((b : ℕ) (s : Buffered) → HoldsNodes old.nodes b s → messages ≡ site.sent_at_resend b s (length old.nodes.groups.items)) →
+    ((ss : List Sent) (ds : List ℕ) (fa : ℕ → ℕ) → HoldsSent old.outbox ss ds fa → HoldsSent new.outbox (ss ++ messages) ds fa) →
+    nodes_in new.outbox ≡ nodes_in old.outbox → new ≡ record old { outbox = new.outbox } → IsStoppedSite shape new (record run { sent = run.sent ++ sent_to_injector shape run })
+unfolding resend_step
+rest_resent shape old new run messages held none sends outbox senders rest =
+    let sent : sent_to_injector shape run ≡ sent_by_owners shape run = again_where shape run None (none_lost_of shape old run held none) in
+    let after : Progress = record run { sent = run.sent ++ sent_by_owners shape run } in
+    let there : IsStoppedSite shape (record old { outbox = new.outbox }) after = record {
+      declared = held.declared;
+      sound = sound_resend shape run held.sound;
+      fits = held.fits;
+      id = held.id;
+      mapped = held.mapped;
+      clock = held.clock;
+      rows = held.rows;
+      count = held.count;
+      nodes = held.nodes;
+      covered = held.covered;
+      lost = held.lost;
+      outbox = subst (λ (ms : List Sent). HoldsSent new.outbox (run.sent ++ ms) run.delivered (failed_in run)) (resending_is shape old run messages held sends) (outbox run.sent run.delivered (failed_in run) held.outbox);
+      senders = senders ∙ held.senders;
+      made = held.made;
+      few = held.few;
+    } in
+    subst (λ (more : List Sent). IsStoppedSite shape new (record run { sent = run.sent ++ more })) (sym sent)
+    (subst (λ (s : StoppedSite). IsStoppedSite shape s after) (sym rest) there)
+
+-- the site with its new injector, and the answer
+pub site_recovered : (shape : Shape) (old new : StoppedSite) (events : EventBuffer) (its : Injector) (seen : ℕ → List ℕ) (run : Progress) (buckets : ℕ) (written : Epoch) (sent : ℕ) → IsStoppedSite shape old run →
+    IsStoppedSite shape new (record run { sent = run.sent ++ sent_to_injector shape run }) → inject.StandsFor its (setup_of shape its) (written_bodies shape run) seen → written.0 ≡ inject.written_of its → buckets ≡ old.nodes.buckets →
+    StandsFor events (record { buckets = buckets; last = written.0; received = [] }) → sent ≡ count_in new.outbox →
+    IsSite shape (site_of new events its) seen (injector_step shape run).run × (outcomes.Recovered written sent ≡ (injector_step shape run).outcome)
+unfolding injector_step
+site_recovered shape old new events its seen run buckets written sent before held log last all fed count =
+    let through : written.0 ≡ acknowledged_epoch shape run = last ∙ written_epoch its (setup_of shape its) (written_bodies shape run) seen log in
+    let after : IsStoppedSite shape new (with_new_injector shape run) = record {
+      declared = held.declared;
+      sound = sound_injector shape run before.sound;
+      fits = held.fits;
+      id = held.id;
+      mapped = held.mapped;
+      clock = held.clock;
+      rows = held.rows;
+      count = held.count;
+      nodes = held.nodes;
+      covered = held.covered;
+      lost = held.lost;
+      outbox = held.outbox;
+      senders = held.senders;
+      made = held.made;
+      few = held.few;
+    } in (
+      site_stands shape new events its seen (with_new_injector shape run) after
+          (subst (λ (epoch : ℕ). StandsFor events (record { buckets = shape.buckets; last = epoch; received = [] })) through
+          (subst (λ (n : ℕ). StandsFor events (record { buckets = n; last = written.0; received = [] })) (all ∙ before.nodes.buckets_are) fed)) log,
+      ap (λ (n : ℕ). outcomes.Recovered (record { 0 = n }) sent) through ∙ ap (outcomes.Recovered (record { 0 = acknowledged_epoch shape run })) (count ∙ ap length held.outbox.sent_is),
+    )
+
+-- the tables and the limit of what is left, and its log, by other names
+pub log_can_be_recovered : (shape : Shape) (old : Site) (rest : StoppedSite) (tables : List Mapped) (seen : ℕ → List ℕ) (run : Progress) → rest ≡ rest_of old → tables ≡ rest.mapped → IsSite shape old seen run → opened_of old < 18446744073709551616 →
+    CanBeRecovered (record { site = rest.id; limit = rest.limit; tables = tables }) (written_bodies shape run) seen
+log_can_be_recovered shape old rest tables seen run is named held room =
+    let opened : opened_of old ≡ run.opened = ap (λ (hand : Hand). hand.opened) held.clock in
+    let ready = can_be_recovered shape old.injector seen run held.declared held.sound held.fits (omega (arith, held.made, held.few)) (omega (arith, opened, room)) held.log in
+    subst (λ (r : StoppedSite). CanBeRecovered (record { site = r.id; limit = r.limit; tables = tables }) (written_bodies shape run) seen) (sym is)
+    (subst (λ (id : SiteId). CanBeRecovered (record { site = id; limit = limit_of old; tables = tables }) (written_bodies shape run) seen) (held.declared.primary ∙ sym held.id) (record { image = ready.image; logged = ready.logged; few = ready.few }))
+
+-- so is what the new injector's log is written for
+pub log_recovered : (shape : Shape) (old : Site) (rest : StoppedSite) (tables : List Mapped) (its : Injector) (seen now : ℕ → List ℕ) (run : Progress) → rest ≡ rest_of old → tables ≡ rest.mapped → IsSite shape old seen run →
+    inject.StandsFor its (record { site = rest.id; limit = rest.limit; tables = tables }) (written_bodies shape run) now → inject.StandsFor its (setup_of shape its) (written_bodies shape run) now
+log_recovered shape old rest tables its seen now run is named held log =
+    let site : rest.id ≡ shape.site = ap (λ (r : StoppedSite). r.id) is ∙ held.id ∙ sym held.declared.primary in
+    let all : tables ≡ shape.tables = named ∙ ap (λ (r : StoppedSite). r.mapped) is ∙ held.mapped in
+    log_named shape its rest.limit (written_bodies shape run) now
+    (subst (λ (id : SiteId). inject.StandsFor its (record { site = id; limit = rest.limit; tables = shape.tables }) (written_bodies shape run) now) site
+    (subst (λ (ts : List Mapped). inject.StandsFor its (record { site = rest.id; limit = rest.limit; tables = ts }) (written_bodies shape run) now) all log))
+
+-- what a fault leaves is an image by the site's own names
+pub image_left : (shape : Shape) (old : Site) (rest : StoppedSite) (seen now : ℕ → List ℕ) (run : Progress) → rest ≡ rest_of old → IsSite shape old seen run → IsLogImage rest.id rest.limit (written_bodies shape run) now → IsLogImage A (limit_of old) (written_bodies shape run) now
+image_left shape old rest seen now run is held image =
+    subst (λ (id : SiteId). IsLogImage id (limit_of old) (written_bodies shape run) now) held.id
+    (subst (λ (r : StoppedSite). IsLogImage r.id r.limit (written_bodies shape run) now) is image)
+
+-- the image that a new injector's log is
+pub image_stands : (shape : Shape) (old : Site) (rest : StoppedSite) (tables : List Mapped) (its : Injector) (seen now : ℕ → List ℕ) (run : Progress) → rest ≡ rest_of old → IsSite shape old seen run →
+    inject.StandsFor its (record { site = rest.id; limit = rest.limit; tables = tables }) (written_bodies shape run) now → IsLogImage A (limit_of old) (written_bodies shape run) now
+image_stands shape old rest tables its seen now run is held log = image_left shape old rest seen now run is held (whole_is_image rest.id rest.limit (written_bodies shape run) now log.held)
+
+-- as many groups and nodes, and the same limit
+pub setup_stays : (old new : Site) (rest : StoppedSite) (its : Injector) → rest ≡ rest_of old → inject.limit_of its ≡ rest.limit → HasSameSetup rest its new → SameSetup old new
+setup_stays old new rest its is limit (groups, replicas, same) = (
+  groups ∙ ap (λ (r : StoppedSite). length r.nodes.groups.items) is,
+  replicas ∙ ap (λ (r : StoppedSite). r.nodes.replicas) is,
+  same ∙ limit ∙ ap (λ (r : StoppedSite). r.limit) is,
+)

@@ -1,0 +1,119 @@
+-- What an event leaves of a site, by cases.
+use Rattle.std.specs.Prelude.{◌≡◌, ℕ, ◌≤◌, ⊤, length, None, Result, Ok, Err}
+use Rattle.rb_base.specs.declared.site.SiteId.TheVariants.{A}
+use Rattle.rb_base.specs.declared.outcome.Outcome.{Outcome}
+use Rattle.rb_base.specs.Faults.{Rose}
+use Rattle.rb_base.specs.declared.memory.NoMemory.{NoMemory}
+use Rattle.rb_journal_defs.specs.Journal.{previous_closed, row_at}
+use Rattle.rb_journal_defs.specs.Body.{Shape}
+use Rattle.rb_text_defs.specs.Script.{most_changes}
+use Rattle.rb_store.specs.Tables.{rows_in, tables_in}
+use Rattle.rb_evbuf.specs.declared.buffer.EventBuffer.{EventBuffer}
+use Rattle.rb_inject.specs.Injector as injector
+use Rattle.rb_inject.specs.declared.injector.Injector.{Injector}
+use Rattle.rb_play_defs.specs.Step.{Progress, failed_in}
+use Rattle.rb_play_defs.specs.Sound.{IsSound}
+use Rattle.rb_play_defs.specs.Fitting.{JournalFits}
+use Rattle.rb_site.specs.Nodes.{HasNodes, HoldsNodes, OwnersCover}
+use Rattle.rb_site.specs.Outbox.{HoldsSent, nodes_in}
+use Rattle.rb_site.specs.Site.{AreDeclared, buffered_by, changes_made, loss_of, groups_of, replicas_of, limit_of}
+use Rattle.rb_site.specs.declared.site.Site.{Site}
+use Rattle.rb_site.specs.declared.stepped.Stepped.{Stepped}
+use Rattle.rb_site.specs.declared.stepped.Stepped.TheVariants as steps
+use Rattle.rb_site.specs.declared.stepped.StoppedSite.{StoppedSite}
+
+-- a site without injector and event buffer stands for a point of a run
+pub record IsStoppedSite (shape : Shape) (site : StoppedSite) (run : Progress) : Type 0 where
+  pub declared : AreDeclared shape
+  pub sound : IsSound shape run
+  pub fits : JournalFits shape run.journal
+  pub id : site.id ≡ A
+  pub mapped : site.mapped ≡ shape.tables
+  pub clock : site.clock ≡ record { opened = run.opened; previous = previous_closed run.opened run.journal; drawn = run.drawn }
+  pub rows : (table key : ℕ) → rows_in site.tables table key ≡ row_at shape.site table key run.journal
+  pub count : tables_in site.tables ≡ length shape.tables
+  pub nodes : HoldsNodes site.nodes shape.buckets (buffered_by shape run)
+  pub covered : run.lost ≡ None → OwnersCover shape.buckets (buffered_by shape run)
+  pub lost : loss_of site.lost ≡ run.lost
+  pub outbox : HoldsSent site.outbox run.sent run.delivered (failed_in run)
+  pub senders : nodes_in site.outbox ≡ shape.buckets
+  pub made : site.made ≡ changes_made shape run.journal
+  pub few : site.made ≤ most_changes
+
+-- the limit of its binlog files
+abbrev pub limit_in : StoppedSite → ℕ
+limit_in site = site.limit
+
+-- so many groups, of so many nodes each, and this limit
+abbrev pub HasSetup : (groups replicas limit : ℕ) → StoppedSite → Type 0
+HasSetup groups replicas limit site = HasNodes groups replicas site.nodes × (site.limit ≡ limit)
+
+-- a site with the groups and nodes of this rest, and the limit of this injector
+abbrev pub HasSameSetup : StoppedSite → Injector → Site → Type 0
+HasSameSetup rest its site =
+    (groups_of site ≡ length rest.nodes.groups.items) × (replicas_of site ≡ rest.nodes.replicas) × (limit_of site ≡ injector.limit_of its)
+
+-- what is left of a site without its injector and event buffer
+abbrev pub rest_of : Site → StoppedSite
+rest_of site = record {
+  alloc = site.alloc;
+  id = site.id;
+  tables = site.tables;
+  mapped = site.mapped;
+  clock = site.clock;
+  nodes = site.nodes;
+  outbox = site.outbox;
+  limit = limit_of site;
+  made = site.made;
+  lost = site.lost;
+}
+
+-- a site of such a rest
+abbrev pub site_of : StoppedSite → EventBuffer → Injector → Site
+site_of rest events its = record {
+  alloc = rest.alloc;
+  id = rest.id;
+  tables = rest.tables;
+  mapped = rest.mapped;
+  clock = rest.clock;
+  nodes = rest.nodes;
+  outbox = rest.outbox;
+  events = events;
+  injector = its;
+  made = rest.made;
+  lost = rest.lost;
+}
+
+-- what an event leaves that does not touch the device
+abbrev pub stepped_of : Result (Site × Outcome) NoMemory → Stepped
+stepped_of (Ok pair) = steps.On pair.0 pair.1
+stepped_of (Err fault) = steps.NoMemory
+
+-- this holds of the site and the answer, where there are both
+abbrev pub IfOn : Stepped → (Site → Outcome → Type 0) → Type 0
+IfOn (steps.On site outcome) holds = holds site outcome
+IfOn (steps.Stopped site) holds = ⊤
+IfOn steps.NoMemory holds = ⊤
+
+-- this holds of the stopped site, where it is one
+abbrev pub IfStopped : Stepped → (StoppedSite → Type 0) → Type 0
+IfStopped (steps.On site outcome) holds = ⊤
+IfStopped (steps.Stopped site) holds = holds site
+IfStopped steps.NoMemory holds = ⊤
+
+-- the device failed within the event
+abbrev pub IsStopped : Stepped → Type 0
+IsStopped (steps.On site outcome) = ⊥
+IsStopped (steps.Stopped site) = Unit {0}
+IsStopped steps.NoMemory = ⊥
+
+-- the event was not done to its end
+abbrev pub IsCut : Stepped → Type 0
+IsCut (steps.On site outcome) = ⊥
+IsCut (steps.Stopped site) = Unit {0}
+IsCut steps.NoMemory = Unit {0}
+
+-- the device failed only where its count rose
+pub record HasStepCause (before now : ℕ) (result : Stepped) : Type 0 where
+  pub later : before ≤ now
+  pub failed : IsStopped result → Rose before now

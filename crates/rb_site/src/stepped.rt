@@ -1,0 +1,103 @@
+ghost use Rattle.std.specs.Prelude.{◌≡◌, ◌++◌, ◌<◌, ◌*◌, ◌^◌, length, IfOk, OnOk};
+ghost use Rattle.rb_journal_defs.specs.Body.{Shape};
+ghost use Rattle.rb_play_defs.specs.Step.{Progress, beginning, sent_to_injector};
+ghost use Rattle.rb_site.specs.Nodes.{HasNodes};
+ghost use Rattle.rb_site.specs.Site.{AreDeclared, shape_of};
+ghost use Rattle.rb_site.specs.Stepped.{IsStoppedSite, stepped_of};
+
+use crate::mapping::map_tables;
+use crate::nodes::Nodes;
+use crate::outbox::Outbox;
+use crate::sending::send_all;
+use crate::site::{Loss, Site};
+use rb_base::{MappedTables, NoMemory, Outcome, Schema, SiteId, SiteSetup};
+use rb_commit::Clock;
+use rb_store::Tables;
+use std::alloc::Global;
+
+/// What an event leaves of a site.
+#[derive(Drop)]
+pub enum Stepped {
+    /// The site behind the event, and the event's answer.
+    On(Site, Outcome),
+    /// The log device failed: the injector and its event buffer are gone, and the rest of the site is as it was before the event.
+    Stopped(StoppedSite),
+    /// Memory ran out, and the site is gone. Its log can be opened again.
+    NoMemory,
+}
+
+/// A site whose injector and event buffer are gone. Its nodes still have all messages that are not acknowledged.
+#[derive(Drop)]
+pub struct StoppedSite {
+    pub(crate) alloc: Global,
+    pub(crate) id: SiteId,
+    pub(crate) tables: Tables,
+    pub(crate) mapped: MappedTables,
+    pub(crate) clock: Clock,
+    pub(crate) nodes: Nodes,
+    pub(crate) outbox: Outbox,
+    // Of the binlog files, in bytes.
+    pub(crate) limit: u64,
+    pub(crate) made: u64,
+    pub(crate) lost: Option<Loss>,
+}
+
+impl StoppedSite {
+    /// Site A at its start, with these tables, without an injector.
+    pub(crate) fn begin(
+        alloc: Global,
+        schemas: &[Schema],
+        setup: SiteSetup,
+    ) -> Result<StoppedSite, NoMemory>
+        requires declared { AreDeclared (shape_of schemas.now setup.groups setup.replicas) }
+        requires some { 0 < setup.groups * setup.replicas }
+        requires few { setup.groups * setup.replicas < 2 ^ 32 }
+        requires tables { length schemas.now < 2 ^ 16 }
+        ensures begun { IfOk result (λ site. IsStoppedSite (shape_of schemas.now setup.groups setup.replicas) site (beginning setup.groups setup.replicas)) }
+        ensures nodes { IfOk result (λ site. HasNodes setup.groups setup.replicas site.nodes) }
+        ensures limit { IfOk result (λ site. site.limit ≡ setup.limit) }
+    {
+        let clock = Clock::new(alloc);
+        let tables = Tables::new(alloc, schemas)?;
+        let mapped = map_tables(alloc, schemas)?;
+        let nodes = Nodes::new(alloc, setup.groups, setup.replicas, clock.open())?;
+        let outbox = Outbox::new(alloc, setup.groups * setup.replicas)?;
+        Ok(StoppedSite {
+            alloc,
+            id: SiteId::A,
+            tables,
+            mapped,
+            clock,
+            nodes,
+            outbox,
+            limit: setup.limit,
+            made: 0,
+            lost: None,
+        })
+    }
+
+    /// Each owner sends its buckets again to a new injector, unless a group is lost.
+    pub(crate) fn send_again(&mut self) -> Result<(), NoMemory>
+        requires fits { (shape : Shape) × (run : Progress) × IsStoppedSite shape self.old run }
+        ensures sent { OnOk result ((shape : Shape) (run : Progress) → IsStoppedSite shape self.old run →
+            IsStoppedSite shape self.new (record run { sent = run.sent ++ sent_to_injector shape run })) }
+        ensures rest { OnOk result (self.new ≡ record self.old { outbox = self.new.outbox }) }
+    {
+        if self.lost.is_some() {
+            return Ok(());
+        }
+        let messages = self.nodes.resend()?;
+        send_all(&mut self.outbox, messages)?;
+        Ok(())
+    }
+}
+
+/// What an event leaves that does not touch the device.
+pub(crate) fn step_of(inside: Result<(Site, Outcome), NoMemory>) -> Stepped
+    ensures { result ≡ stepped_of inside }
+{
+    match inside {
+        Ok((site, outcome)) => Stepped::On(site, outcome),
+        Err(NoMemory) => Stepped::NoMemory,
+    }
+}

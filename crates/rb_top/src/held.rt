@@ -1,0 +1,35 @@
+ghost use Rattle.std.specs.Prelude.{◌≡◌, IfSome, IsNone};
+ghost use Rattle.rb_top.specs.Program.{AreEmpty, IsFirstHeld};
+
+use rb_base::SiteId;
+use rb_disk::{LogDisk, lowest_file};
+
+/// A file that is not empty.
+#[derive(Clone, Copy, Debug)]
+pub(crate) struct HeldFile {
+    /// The site of its device.
+    pub(crate) site: SiteId,
+    pub(crate) file: u32,
+    /// In bytes.
+    pub(crate) length: u64,
+}
+
+/// The first file of two devices that is not empty: site A's device first, and the lowest file first.
+pub(crate) fn first_held<D: LogDisk>(disk_a: &D, disk_b: &D) -> Option<HeldFile>
+    ensures held { IfSome result (λ found. IsFirstHeld found.site found.file found.length (D.seen disk_a.now) (D.seen disk_b.now)) }
+    ensures empty { IsNone result → AreEmpty (D.seen disk_a.now) (D.seen disk_b.now) }
+{
+    if let Some((file, length)) = lowest_file(disk_a) {
+        return Some(HeldFile {
+            site: SiteId::A,
+            file,
+            length,
+        });
+    }
+    let (file, length) = lowest_file(disk_b)?;
+    Some(HeldFile {
+        site: SiteId::B,
+        file,
+        length,
+    })
+}
