@@ -1,10 +1,9 @@
 #!/bin/sh
 # Runs the program on scripts whose epochs are all written to the log: 1,000 epochs of 100 changes and 49,000 epochs of one change,
 # with binlog files of 512 bytes, so that each epoch or every second one rotates the log, and of 67,108,864 bytes. It prints how many
-# epochs and bytes of log that is in a second, and holds the time for each epoch to a bound on its growth with the log.
-# An epoch makes six calls of the log device: its bytes are written to the last binlog file and synced, its record is written to the
-# index and synced, and so is its gate. With a rotation there are four more: a rotate event and the next file's start, each written
-# and synced. The program does not tell how many it made; this is read off the code.
+# epochs and bytes of log that is in a second, and how many calls of the log device each epoch takes, six and four more for a rotation,
+# and holds the time for each epoch to a bound on its growth with the log. The calls are counted by the model of the run, as
+# the order of the calls says, since the program does not tell how many it made.
 # Usage: bench/inject.sh [PROGRAM]; by default the program that ./rb builds. It needs python3 and GNU time.
 # It ends with 0 where the bounds hold, with 1 where one is broken or a report is wrong, and with 2 where it cannot measure.
 here=$(cd "$(dirname "$0")" && pwd) || exit 2
@@ -42,7 +41,8 @@ def measured(program, timer, folder, epochs, changes, limit):
     seconds = seconds_of(program, script, model.report())
     peak = memory_of(timer, program, script)
     print(f"{epochs:,} epochs of {changes}, limit {limit:,}: {epochs / seconds:,.0f} epochs/s, "
-          f"{model.log_bytes() / MEGABYTE / seconds:.1f} MB/s of log, {model.log_bytes():,} bytes of log, peak memory {peak:,} bytes")
+          f"{model.log_bytes() / MEGABYTE / seconds:.1f} MB/s of log, {model.log_bytes():,} bytes of log, "
+          f"{model.device_calls() / epochs:.2f} calls of the device for each epoch, peak memory {peak:,} bytes")
     return seconds / epochs
 
 

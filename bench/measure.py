@@ -17,6 +17,10 @@ LOG_EPOCH = 38 + 62 + 39 + 61 + 27
 LOG_CHANGE = 57
 LOG_ROTATE = 19 + 8 + len("a-bin.000002")
 INDEX_RECORD = 65
+# The calls of the log device: an epoch's bytes, its record and its gate are each written and synced, and so are a rotate event and the
+# start of the next file.
+EPOCH_CALLS = 6
+ROTATION_CALLS = 4
 DEFAULT_LIMIT = 1048576
 
 
@@ -199,6 +203,11 @@ class Model:
         _, files = self._places()
         epochs = sum(LOG_EPOCH + LOG_CHANGE * changes for _, changes in self.written)
         return files * LOG_START + (files - 1) * LOG_ROTATE + epochs + len(self.written) * INDEX_RECORD + 1
+
+    def device_calls(self):
+        """The calls of the device that log the epochs, as the order of the calls says."""
+        _, files = self._places()
+        return len(self.written) * EPOCH_CALLS + (files - 1) * ROTATION_CALLS
 
 
 def stop(why):

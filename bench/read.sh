@@ -1,22 +1,27 @@
 #!/bin/sh
 # Reads logs of 1 MB and of 200 MB, of epochs of 100 changes and of one change, checks the first epochs of their texts, and holds
 # time per byte and memory to their bounds.
-# Usage: bench/read.sh [PROGRAM]; by default the program that ./rb builds. It needs python3 and GNU time, and 250 MB in the folder for
-# temporary files. The logs are made here, byte by byte as docs/LOG_FORMAT.md says.
+# The logs are made here, byte by byte as docs/LOG_FORMAT.md says, since a script has 100,000 changes at most and binlog files of
+# 67,108,864 bytes, too few for one file of 200 MB. The smaller ones are compared with what the program writes for a script of
+# the same epochs.
+# Usage: bench/read.sh [PROGRAM [WRITER]]; by default the programs that ./rb and ./rb logs build. It needs python3 and GNU time, and
+# 250 MB in the folder for temporary files.
 # It ends with 0 where all bounds hold, with 1 where one is broken or a text is wrong, and with 2 where it cannot measure.
 here=$(cd "$(dirname "$0")" && pwd) || exit 2
-PYTHONPATH=$here exec python3 - "${1:-$here/../crates/rb_cli/out/rb_cli}" <<'PYTHON'
+PYTHONPATH=$here exec python3 - "${1:-$here/../crates/rb_cli/out/rb_cli}" "${2:-$here/../crates/rb_logs/out/rb_logs}" <<'PYTHON'
 import os
 import subprocess
 import sys
 import tempfile
 import time
-from measure import FIRST_EPOCH, judge, program_and_timer, stop
+from measure import FIRST_EPOCH, Model, judge, program_and_timer, stop
 
 MEGABYTE = 1_000_000
 SMALL, LARGE = 1, 200
 EPOCHS_OF = (100, 1)
 RUNS = {SMALL: 15, LARGE: 5}
+
+LARGEST_LIMIT = 67_108_864
 
 MOST_RATIO = 1.2
 MOST_MEMORY_ABOVE = 64 * MEGABYTE
@@ -65,7 +70,7 @@ class Log:
         return b"".join(events), "\n".join([title, *lines]) + "\n"
 
     def write(self, path, size):
-        """Writes a log of about so many bytes, and answers the text of its first epochs and how many rows it has."""
+        """Writes a log of about so many bytes, and answers the text of its first epochs."""
         text = "ndb binlog read\n"
         with open(path, "wb", buffering=MEGABYTE) as file:
             file.write(self.start)
@@ -74,7 +79,28 @@ class Log:
                 file.write(events)
                 if self.epochs <= 3:
                     text += lines
-        return text, self.epochs * self.changes
+        return text
+
+
+def written(writer, epochs, changes):
+    """Binlog file 1 of a script of so many such epochs, as the program writes it."""
+    model = Model(limit=LARGEST_LIMIT)
+    for first in range(1, epochs * changes + 1, changes):
+        model.insert_all({key: 3 * key for key in range(first, first + changes)})
+        model.close()
+    model.log()
+    run = subprocess.run([writer, "logs"], input=model.script().encode(), capture_output=True)
+    _, _, dump = run.stdout.decode().partition("\nfile A 1 ")
+    lines = dump.partition("\nfile ")[0].splitlines()[1:]
+    return bytes.fromhex("".join(line.split()[1] for line in lines))
+
+
+def check_written(writer, path, epochs, changes):
+    """The program writes this very log."""
+    with open(path, "rb") as file:
+        if file.read() != written(writer, epochs, changes):
+            print("the log is not what the program writes", file=sys.stderr)
+            sys.exit(1)
 
 
 def read(program, path, runs, text):
@@ -114,13 +140,16 @@ def main():
         per_byte, peak = {}, {}
         for size in (SMALL, LARGE):
             with tempfile.NamedTemporaryFile() as file:
-                text, rows = Log(changes).write(file.name, size * MEGABYTE)
+                log = Log(changes)
+                text = log.write(file.name, size * MEGABYTE)
+                if size == SMALL:
+                    check_written(os.path.abspath(sys.argv[2]), file.name, log.epochs, changes)
                 length = os.path.getsize(file.name)
                 seconds = read(program, file.name, RUNS[size], text)
                 peak[size] = memory_of(timer, program, file.name)
             per_byte[size] = seconds / length
             print(f"{length:,} bytes, {changes} changes an epoch: {length / MEGABYTE / seconds:.0f} MB/s, "
-                  f"{rows / seconds:,.0f} rows/s, peak memory {peak[size]:,} bytes")
+                  f"{log.epochs * changes / seconds:,.0f} rows/s, peak memory {peak[size]:,} bytes")
         holds.append(judge("ratio of the times per byte", per_byte[LARGE] / per_byte[SMALL], MOST_RATIO, ".2f", ""))
         holds.append(judge("peak memory above the smaller one's", peak[LARGE] - peak[SMALL], MOST_MEMORY_ABOVE, ",", " bytes"))
     sys.exit(0 if all(holds) else 1)

@@ -4,11 +4,16 @@ use Rattle.std.proofs.lemmas.Bool.{le-leb}
 use Rattle.std.proofs.lemmas.Grind.{common_steps}
 use Rattle.std.specs.Prelude.{Bool, true, nat_le, if◌then◌else◌}
 use Rattle.rb_base.specs.declared.site.SiteId.{SiteId}
-use Rattle.rb_log_defs.specs.File.{Binlog, rotated, rotated_at, file_start}
+use Rattle.rb_log_defs.specs.File.{Binlog, files_in, rotated, rotated_at, file_start}
+use Rattle.rb_log_defs.proofs.Sizes.{name_length}
 use Rattle.rb_device_defs.specs.Files.{HoldsFiles, file_at}
 use Rattle.rb_device_defs.proofs.FrontLaws.{behind_front}
 use Rattle.rb_binlog.specs.declared.binlog.BinlogFiles.{BinlogFiles}
-use Rattle.rb_binlog.specs.Binlog.{StandsFor, files_in}
+use Rattle.rb_binlog.specs.Binlog.{StandsFor, rotation_size}
+
+-- a rotate event has at most 43 bytes
+pub rotation_small : (files : BinlogFiles) → files.number < 4294967295 → rotation_size files ≤ 43
+rotation_small files few = omega (arith, name_length files.site (files.number + 1) (omega (arith, few)))
 
 -- the last file is another
 pub last_changed : (closed : List (List ℕ)) (last file : List ℕ) (seen now : ℕ → List ℕ) → HoldsFiles (closed ++ last ∷ []) seen → now (length closed + 1) ≡ file → ((other : ℕ) → other ≢ length closed + 1 → now other ≡ seen other) → HoldsFiles (closed ++ file ∷ []) now

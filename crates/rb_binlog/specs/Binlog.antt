@@ -1,7 +1,7 @@
 -- What the binlog files of a site stand for.
-use Rattle.std.specs.Prelude.{◌≡◌, ℕ, ◌+◌, ◌-◌, ◌^◌, ◌<◌, List, [], ◌∷◌, ◌++◌, length}
+use Rattle.std.specs.Prelude.{◌≡◌, ℕ, ◌+◌, ◌-◌, ◌^◌, ◌<◌, List, length}
 use Rattle.rb_base.specs.declared.site.SiteId.{SiteId}
-use Rattle.rb_log_defs.specs.File.{Binlog}
+use Rattle.rb_log_defs.specs.File.{Binlog, file_name, files_in}
 use Rattle.rb_device_defs.specs.Files.{HoldsFiles}
 use Rattle.rb_binlog.specs.declared.binlog.BinlogFiles.{BinlogFiles}
 
@@ -13,9 +13,9 @@ number_of files = files.number
 abbrev pub length_of : BinlogFiles → ℕ
 length_of files = files.length
 
--- the files of a binlog, file 1 first
-abbrev pub files_in : Binlog → List (List ℕ)
-files_in log = log.closed ++ log.last ∷ []
+-- how many bytes the event has that would end it, naming the next file
+abbrev pub rotation_size : BinlogFiles → ℕ
+rotation_size files = 27 + length (file_name files.site (files.number + 1))
 
 -- the files of this site stand for a binlog, over a device that reads as it
 pub record StandsFor (files : BinlogFiles) (site : SiteId) (log : Binlog) (seen : ℕ → List ℕ) : Type 0 where

@@ -1,6 +1,6 @@
 ghost use Rattle.std.specs.Prelude.{◌≡◌, ◌≢◌, ◌≤◌, ◌<◌, ◌+◌, ◌-◌, ◌^◌, ◌++◌, ◌∷◌, ℕ, List, [], length, take, drop, nat_le, IfOk, OnOk, OnErr};
 ghost use Rattle.rb_base.specs.declared.site.SiteId.{SiteId};
-ghost use Rattle.rb_log_defs.specs.File.{Binlog, new_binlog, rotated_at};
+ghost use Rattle.rb_log_defs.specs.File.{Binlog, files_in, new_binlog, rotated_at};
 ghost use Rattle.rb_device_defs.specs.Files.{HoldsFront};
 ghost use Rattle.rb_disk.specs.Fault.{HasDiskCause};
 
@@ -27,7 +27,7 @@ pub struct BinlogFiles {
 }
 
 impl BinlogFiles {
-    ghost use Rattle.rb_binlog.specs.Binlog.{StandsFor, Stands, number_of, length_of, files_in};
+    ghost use Rattle.rb_binlog.specs.Binlog.{StandsFor, Stands, number_of, length_of, rotation_size};
 
     /// A binlog without an epoch: file 1, which gets its start and is synced. The files from 1 on are empty before. At a fault,
     /// also where memory runs out, file 1 may have some bytes, and no other file changes.
@@ -50,8 +50,8 @@ impl BinlogFiles {
         })
     }
 
-    /// Appends bytes to the last file, in one write, and syncs it. At a fault, also where memory runs out, some of them may stand
-    /// there, what stood there before is as it was, and the end that this value tells of is the old one.
+    /// Appends bytes to the last file, in one write, and syncs it. At a fault, also where memory runs out, any bytes may stand where
+    /// these were to stand, what stood before them is as it was, and the end that this value tells of is the old one.
     pub fn append<D: LogDisk>(&mut self, bytes: &[u8], disk: &mut D) -> Result<(), DiskLogFault>
         requires stands { Stands self.old (D.seen disk.old) }
         requires fits { length_of self.old + length bytes.now < 2 ^ 32 }
@@ -75,7 +75,7 @@ impl BinlogFiles {
     pub fn rotate_if<D: LogDisk>(&mut self, limit: u64, disk: &mut D) -> Result<bool, DiskLogFault>
         requires stands { Stands self.old (D.seen disk.old) }
         requires few { number_of self.old < 4294967294 }
-        requires fits { length_of self.old + 43 < 2 ^ 32 }
+        requires fits { limit ≤ length_of self.old → length_of self.old + rotation_size self.old < 2 ^ 32 }
         ensures rotated { IfOk result (λ rotated. (site : SiteId) (log : Binlog) → StandsFor self.old site log (D.seen disk.old) →
             StandsFor self.new site (rotated_at site limit log) (D.seen disk.new) × (rotated ≡ nat_le limit (length log.last))) }
         ensures kept { OnErr result ((site : SiteId) (log : Binlog) → StandsFor self.old site log (D.seen disk.old) →

@@ -2,7 +2,6 @@ ghost use Rattle.std.specs.Prelude.{◌≡◌, ◌≤◌, ◌+◌, ℕ, [], leng
 ghost use Rattle.rb_binlog.specs.Binlog.{Stands, number_of, length_of};
 
 use super::*;
-use crate::rotate::file_name;
 use rb_base::{Numbers, OutFault, SiteId};
 use rb_disk::{DiskLogFault, FailingDisk, LogDisk, MemoryDisk};
 use std::alloc::Global;
@@ -165,17 +164,5 @@ fn a_cut_fails_midway(rt: HostRuntime) -> Result<(), Fail> {
             (b"gh".as_slice(), b"ij".as_slice())
         );
     }
-    Ok(())
-}
-
-#[test]
-fn names_have_six_digits_or_more(rt: HostRuntime) -> Result<(), Fail> {
-    let alloc = rt.alloc();
-    let first = file_name(alloc, SiteId::A, 1)?;
-    assert_eq!(rt; first.as_slice(), b"a-bin.000001".as_slice());
-    let six = file_name(alloc, SiteId::B, 999_999)?;
-    assert_eq!(rt; six.as_slice(), b"b-bin.999999".as_slice());
-    let seven = file_name(alloc, SiteId::B, 1_000_000)?;
-    assert_eq!(rt; seven.as_slice(), b"b-bin.1000000".as_slice());
     Ok(())
 }

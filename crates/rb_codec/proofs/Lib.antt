@@ -1,1 +1,2 @@
+pub mod BitmapLaws
 pub mod ColumnLaws

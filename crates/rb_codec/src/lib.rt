@@ -1,5 +1,5 @@
 //! The events of the binary log that every epoch and every file needs, as bytes, written and read: the header, the
-//! format description, BEGIN and other queries, rotations, the end of a transaction, and table maps.
+//! format description, BEGIN and other queries, rotations, the end of a transaction, and table maps; and the names of files.
 //!
 //! Two contracts hold throughout. A writer appends exactly the bytes that the definitions of the log give for its
 //! event at that position, and without memory it leaves the output as it was. A reader answers exactly what the
@@ -16,6 +16,7 @@ mod fields;
 mod fixed;
 mod header;
 mod mapped;
+mod name;
 mod read;
 mod table_map;
 
@@ -29,6 +30,7 @@ pub use fields::{Fields, check};
 pub use fixed::{write_format, write_query, write_rotate, write_xid};
 pub use header::write_header;
 pub use mapped::{is_status, read_table_map};
+pub use name::file_name;
 pub use rb_read_defs::{Header, QueryText, RotateTo};
 pub use read::{read_format, read_header, read_query, read_rotate, read_xid};
 pub use table_map::write_table_map;

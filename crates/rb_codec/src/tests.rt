@@ -2,7 +2,7 @@ ghost use Rattle.std.specs.Prelude.{◌<◌, ◌≤◌, length, IfOk};
 ghost use Rattle.rb_log_defs.specs.Fits.{CanBeMapped};
 
 use super::*;
-use rb_base::{CodecFault, Column, Field, Items, Mapped, NoMemory};
+use rb_base::{CodecFault, Column, Field, Items, Mapped, NoMemory, SiteId};
 use std::alloc::Global;
 use std::test::Fail;
 
@@ -300,5 +300,17 @@ fn what_is_written_is_read(rt: HostRuntime) -> Result<(), Fail> {
         .ok_or("a table map")?;
     assert_eq!(rt; read.id, 65535);
     assert_eq!(rt; read.columns.as_slice(), columns.as_slice());
+    Ok(())
+}
+
+#[test]
+fn names_have_six_digits_or_more(rt: HostRuntime) -> Result<(), Fail> {
+    let alloc = rt.alloc();
+    let first = file_name(alloc, SiteId::A, 1)?;
+    assert_eq!(rt; first.as_slice(), b"a-bin.000001".as_slice());
+    let six = file_name(alloc, SiteId::B, 999_999)?;
+    assert_eq!(rt; six.as_slice(), b"b-bin.999999".as_slice());
+    let seven = file_name(alloc, SiteId::B, 1_000_000)?;
+    assert_eq!(rt; seven.as_slice(), b"b-bin.1000000".as_slice());
     Ok(())
 }

@@ -1,12 +1,12 @@
 -- The front of a binlog's files, up to the end of its last epoch.
 use Rattle.std.proofs.Common.{◌≡◌, ℕ, ◌+◌, ◌-◌, ◌<◌, ◌≤◌, List, [], ◌∷◌, ◌++◌, length, take, refl, ap, sym, ◌∙◌, arith, length-append}
 use Rattle.std.proofs.lemmas.List.{take-append-le, get_or_append_left, get_or-append-add}
-use Rattle.std.specs.Prelude.{Bool, true, false, nat_le, if◌then◌else◌, Option, Some, None}
-use Rattle.std.specs.List.{last_or, slice_get}
+use Rattle.std.specs.Prelude.{Bool, true, false, nat_le, if◌then◌else◌, Option, Some}
+use Rattle.std.specs.List.{last_or}
 use Rattle.rb_base.specs.Site.{server_of}
 use Rattle.rb_base.specs.declared.site.SiteId.{SiteId}
 use Rattle.rb_log_defs.specs.Event.{rotate_event}
-use Rattle.rb_log_defs.specs.File.{file_start, file_name, rotated, Binlog, rotated_at}
+use Rattle.rb_log_defs.specs.File.{file_start, file_name, rotated, Binlog, files_in, rotated_at}
 use Rattle.rb_device_defs.specs.Files.{file_at, HoldsFiles, HoldsFront}
 
 -- the last item of a list with an item at its end
@@ -35,10 +35,6 @@ front_of_all number position files seen some held = record {
   before = λ earlier first below. held earlier first;
   front = ap (take position) (held number some);
 }
-
--- a binlog's files
-abbrev pub files_in : Binlog → List (List ℕ)
-files_in log = log.closed ++ log.last ∷ []
 
 -- where its last file ends
 abbrev pub HoldsToEnd : Binlog → (files : List (List ℕ)) → (seen : ℕ → List ℕ) → Type 0
@@ -82,12 +78,3 @@ to_end_of_longer log bytes seen held =
     ∙ take-append-le (length log.last) log.last bytes (omega arith)
     ∙ ap (take (length log.last)) (sym (behind_front log.closed log.last [])))
     (front_of_all _ _ (log.closed ++ (log.last ++ bytes) ∷ []) seen (omega arith) held)
-
--- the last of some items, by its place
-last_from : {X : Type 0} (x : X) (xs : List X) → slice_get (x ∷ xs) (length xs) ≡ last_or (Some x) xs
-last_from x [] = refl
-last_from x (y ∷ ys) = last_from y ys
-
-pub last_got : {X : Type 0} (xs : List X) → slice_get xs (length xs - 1) ≡ last_or None xs
-last_got [] = refl
-last_got (x ∷ xs) = let e : length (x ∷ xs) - 1 ≡ length xs = omega arith in rw e (last_from x xs)

@@ -6,13 +6,13 @@ use Rattle.rb_base.specs.declared.site.SiteId.{SiteId}
 use Rattle.rb_base.specs.declared.body.EpochBody.{EpochBody}
 use Rattle.rb_base.specs.declared.body.IndexRow.{IndexRow}
 use Rattle.rb_log_defs.specs.Epoch.{epoch_bytes}
-use Rattle.rb_log_defs.specs.File.{file_start, Binlog, rotated, rotated_at, binlog_of, binlog_files, index_rows}
+use Rattle.rb_log_defs.specs.File.{file_start, Binlog, files_in, rotated, rotated_at, binlog_of, binlog_files, index_rows}
 use Rattle.rb_log_defs.specs.Index.{index_row, index_file}
 use Rattle.rb_log_defs.proofs.Files.{binlog_more}
 use Rattle.rb_device_defs.specs.Files.{HoldsFiles, HoldsFront}
 use Rattle.rb_device_defs.specs.Index.{IsIndexImage}
 use Rattle.rb_device_defs.specs.Image.{HoldsLog, HoldsUpTo, IsLogImage}
-use Rattle.rb_device_defs.proofs.FrontLaws.{files_in, HoldsToEnd, front_of_all, last_snoc, to_end_when_rotated, to_end_before_rotation}
+use Rattle.rb_device_defs.proofs.FrontLaws.{HoldsToEnd, front_of_all, last_snoc, to_end_when_rotated, to_end_before_rotation}
 use Rattle.rb_device_defs.proofs.RowLaws.{unrotated, rotated_rows}
 
 -- a front of files, and a shorter one

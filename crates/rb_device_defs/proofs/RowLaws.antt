@@ -147,11 +147,12 @@ pub last_below : (site : SiteId) (limit : ℕ) (bodies : List EpochBody) → 512
 unfolding binlog_of
 last_below site limit bodies least = last_behind_below site limit bodies (new_binlog site) (omega (arith, start_length site, least)) (omega (arith, start_length site, least))
 
--- there are no more full files than bodies
-full_chosen : (site : SiteId) (log : Binlog) (full : Bool) → length (if full then record log { closed = log.closed ++ rotated site (length log.closed + 1) log.last ∷ []; last = file_start site } else log).closed ≤ length log.closed + 1
+-- at most one file more is full
+pub full_chosen : (site : SiteId) (log : Binlog) (full : Bool) → length (if full then record log { closed = log.closed ++ rotated site (length log.closed + 1) log.last ∷ []; last = file_start site } else log).closed ≤ length log.closed + 1
 full_chosen site log true = omega (arith, length-append log.closed (rotated site (length log.closed + 1) log.last ∷ []))
 full_chosen site log false = omega arith
 
+-- there are no more full files than bodies
 full_behind : (site : SiteId) (limit : ℕ) (bodies : List EpochBody) (log : Binlog) → length (fold (with_epoch site limit) log bodies).closed ≤ length log.closed + length bodies
 full_behind site limit [] log = omega arith
 full_behind site limit (body ∷ bodies) log = omega (arith, full_chosen site (unrotated site log body) (nat_le limit (length (unrotated site log body).last)), full_behind site limit bodies (with_epoch site limit log body))

@@ -3,7 +3,7 @@
 //!
 //! The one contract: a call changes no file but the one that it names; a good one does there what it says, and one
 //! that failed, whose count of faults rose, left it as it was outside the range that it names. Only `rb_base` stands
-//! below this crate; the site and the program stand above it.
+//! below this crate; the binlog files, the index, the injector, the site and the program stand above it.
 #![tactic(auto)]
 
 mod device;

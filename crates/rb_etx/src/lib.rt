@@ -3,7 +3,7 @@
 //!
 //! [`encode_epoch`] gives exactly the bytes that the definitions of the log give for the epoch at that position, or
 //! says that they are too many; [`size_of_epoch`] counts them. Below stand the values, the definitions of the log, the
-//! writers of its single events and those of the payloads of rows events; above stands the log's file.
+//! writers of its single events and those of the payloads of rows events; above stands the injector.
 #![tactic(auto)]
 
 mod epoch;

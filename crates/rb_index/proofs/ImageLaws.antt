@@ -1,6 +1,6 @@
 -- What each call on the device makes of file 0.
 use Rattle.std.proofs.Common.{◌≡◌, ◌≢◌, ◌⊎◌, inl, inr, ℕ, ◌+◌, ◌*◌, ◌<◌, ◌≤◌, true, false, List, [], ◌∷◌, ◌++◌, length, take, drop, get_or, refl, sym, ap, subst, ◌∙◌, arith, append_assoc}
-use Rattle.std.specs.Prelude.{◌==◌, nat_lt, Result, Ok, Err, OnErr, IsErrOf}
+use Rattle.std.specs.Prelude.{◌==◌, nat_lt, Err, IsErrOf}
 use Rattle.std.proofs.lemmas.Bool.{eqb-true, le-ltb, ltb-false, and_left, and_right, and_cases, cases_Bool}
 use Rattle.std.proofs.lemmas.List.{append-nil, length-append, length-drop, length-take-le, take-append-drop, take_at, drop_at, take-take, take_all, drop_all, get_or-take, get_or-drop, drop_more, flat_map_more}
 use Rattle.rb_base.specs.declared.body.IndexRow.{IndexRow}
@@ -9,11 +9,6 @@ use Rattle.rb_base.specs.declared.faults.OutFault.TheVariants as outs
 use Rattle.rb_log_defs.specs.Index.{index_record, index_file}
 use Rattle.rb_device_defs.specs.Index.{IsIndexImage, open_records, begins_with_record}
 use Rattle.rb_disk.specs.Disk.{Holds, Torn, CutShort}
-
--- what holds whatever the result is holds at an error
-pub at_an_error : {T E P : Type 0} (r : Result T E) → P → OnErr r P
-at_an_error (Ok _) holds = tt
-at_an_error (Err _) holds = holds
 
 -- a device's fault is one of two, and each tells something
 pub by_fault : {T A B P : Type 0} (fault : OutFault) → (IsErrOf {T = T} (Err fault) outs.Failed → A) → (IsErrOf {T = T} (Err fault) outs.NoMemory → B) → (A → P) → (B → P) → P

@@ -53,7 +53,7 @@ impl EpochIndex {
     }
 
     /// Appends a row, whose epoch is at or above that of the last one: its record and the closed gate of the next one are written
-    /// and synced, and then its gate is opened, and synced. At a fault the device has the index as it was, or with the row.
+    /// and synced, and then its gate is opened, and synced. At a fault file 0 is an image of the index as it was, or with the row.
     pub fn append_row<D: LogDisk>(
         &mut self,
         row: IndexRow,

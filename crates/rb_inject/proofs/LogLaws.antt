@@ -1,17 +1,17 @@
 -- What logging a body leaves, step by step.
 use Rattle.std.proofs.Common.{◌≡◌, ◌≢◌, ℕ, ◌+◌, ◌≤◌, List, [], ◌∷◌, ◌++◌, length, refl, ap, sym, subst, ◌∙◌, inl, inr, arith}
-use Rattle.std.specs.Prelude.{◌⊎◌, Result, Ok, Err, OnErr, IfOk, true}
+use Rattle.std.specs.Prelude.{◌⊎◌, Result, Ok, Err, true}
 use Rattle.rb_base.specs.declared.site.SiteId.{SiteId}
 use Rattle.rb_base.specs.declared.body.EpochBody.{EpochBody}
 use Rattle.rb_base.specs.declared.body.IndexRow.{IndexRow}
 use Rattle.rb_log_defs.specs.Epoch.{epoch_bytes}
-use Rattle.rb_log_defs.specs.File.{Binlog, new_binlog, rotated_at, binlog_of, index_rows}
+use Rattle.rb_log_defs.specs.File.{Binlog, files_in, new_binlog, rotated_at, binlog_of, index_rows}
 use Rattle.rb_log_defs.specs.Index.{index_row, index_file}
 use Rattle.rb_log_defs.proofs.Sizes.{epoch_same_length}
 use Rattle.rb_device_defs.specs.Files.{HoldsFront}
 use Rattle.rb_device_defs.specs.Index.{IsIndexImage}
 use Rattle.rb_device_defs.specs.Image.{IsLogImage}
-use Rattle.rb_device_defs.proofs.FrontLaws.{files_in, front_of_all, to_end_of_longer}
+use Rattle.rb_device_defs.proofs.FrontLaws.{front_of_all, to_end_of_longer}
 use Rattle.rb_device_defs.proofs.RowLaws.{unrotated, last_below}
 use Rattle.rb_device_defs.proofs.ImageLaws.{row_of, index_is_image, image_to_end, image_with, log_with, binlog_with, rows_with}
 use Rattle.rb_binlog.specs.Binlog as binlog
@@ -79,8 +79,8 @@ append_failed injector setup bodies old new stands same held =
     (front_by _ _ _ _ (files_in (log_of setup bodies)) new stands.files.number_is stands.files.length_is held)
 
 -- its row was not appended, or its gate not synced
-pub row_failed : (injector : Injector) (files : BinlogFiles) (setup : LogSetup) (bodies : List EpochBody) (body : EpochBody) (row : IndexRow) (old between new : ℕ → List ℕ) → StandsFor injector setup bodies old → binlog.StandsFor files setup.site (unrotated setup.site (log_of setup bodies) body) between → SameBinlog between new → row ≡ row_of setup.site (log_of setup bodies) body → IsIndexImage injector.index (new 0) ⊎ IsIndexImage (injector.index ++ row ∷ []) (new 0) → LeavesImage setup bodies body new
-row_failed injector files setup bodies body row old between new stands appended same is image =
+pub row_failed : (injector : Injector) (files : BinlogFiles) (setup : LogSetup) (bodies : List EpochBody) (body : EpochBody) (row : IndexRow) (old between new : ℕ → List ℕ) → StandsFor injector setup bodies old → binlog.StandsFor files setup.site (unrotated setup.site (log_of setup bodies) body) between → SameBinlog between new → row ≡ row_of setup.site (log_of setup bodies) body → length (epoch_bytes body 0) ≤ 2147483647 → IsIndexImage injector.index (new 0) ⊎ IsIndexImage (injector.index ++ row ∷ []) (new 0) → LeavesImage setup bodies body new
+row_failed injector files setup bodies body row old between new stands appended same is small image =
     go image
   where
     whole : binlog.StandsFor files setup.site (unrotated setup.site (log_of setup bodies) body) new
@@ -88,17 +88,23 @@ row_failed injector files setup bodies body row old between new stands appended 
 
     go : IsIndexImage injector.index (new 0) ⊎ IsIndexImage (injector.index ++ row ∷ []) (new 0) → LeavesImage setup bodies body new
     go (inl without) = inl (image_to_end setup.site setup.limit bodies new (subst (λ (rows : List IndexRow). IsIndexImage rows (new 0)) stands.rows without) (to_end_of_longer (log_of setup bodies) (epoch_bytes body (length (log_of setup bodies).last)) new whole.held))
-    go (inr with_row) = inr (image_with setup.site setup.limit bodies body new
-        (subst (λ (r : IndexRow). IsIndexImage (index_rows setup.site setup.limit bodies ++ r ∷ []) (new 0)) is (subst (λ (rows : List IndexRow). IsIndexImage (rows ++ row ∷ []) (new 0)) stands.rows with_row))
-        (front_of_all _ _ (files_in (unrotated setup.site (log_of setup bodies) body)) new (omega arith) whole.held))
+    go (inr with_row) = inr (
+      small,
+      image_with setup.site setup.limit bodies body new
+          (subst (λ (r : IndexRow). IsIndexImage (index_rows setup.site setup.limit bodies ++ r ∷ []) (new 0)) is (subst (λ (rows : List IndexRow). IsIndexImage (rows ++ row ∷ []) (new 0)) stands.rows with_row))
+          (front_of_all _ _ (files_in (unrotated setup.site (log_of setup bodies) body)) new (omega arith) whole.held),
+    )
 
 -- the file was not rotated, or not to the end
-pub rotation_failed : (files : BinlogFiles) (setup : LogSetup) (bodies : List EpochBody) (body : EpochBody) (old new : ℕ → List ℕ) → binlog.StandsFor files setup.site (unrotated setup.site (log_of setup bodies) body) old → old 0 ≡ index_file (index_rows setup.site setup.limit bodies ++ row_of setup.site (log_of setup bodies) body ∷ []) → new 0 ≡ old 0 → HoldsFront (binlog.number_of files) (binlog.length_of files) (files_in (unrotated setup.site (log_of setup bodies) body)) new → LeavesImage setup bodies body new
-rotation_failed files setup bodies body old new stands index same held =
+pub rotation_failed : (files : BinlogFiles) (setup : LogSetup) (bodies : List EpochBody) (body : EpochBody) (old new : ℕ → List ℕ) → binlog.StandsFor files setup.site (unrotated setup.site (log_of setup bodies) body) old → old 0 ≡ index_file (index_rows setup.site setup.limit bodies ++ row_of setup.site (log_of setup bodies) body ∷ []) → new 0 ≡ old 0 → HoldsFront (binlog.number_of files) (binlog.length_of files) (files_in (unrotated setup.site (log_of setup bodies) body)) new → length (epoch_bytes body 0) ≤ 2147483647 → LeavesImage setup bodies body new
+rotation_failed files setup bodies body old new stands index same held small =
     let rows : List IndexRow = index_rows setup.site setup.limit bodies ++ row_of setup.site (log_of setup bodies) body ∷ [] in
-    inr (image_with setup.site setup.limit bodies body new
-    (subst (λ (file : List ℕ). IsIndexImage rows file) (sym (same ∙ index)) (index_is_image rows))
-    (front_by _ _ _ _ (files_in (unrotated setup.site (log_of setup bodies) body)) new stands.number_is stands.length_is held))
+    inr (
+      small,
+      image_with setup.site setup.limit bodies body new
+          (subst (λ (file : List ℕ). IsIndexImage rows file) (sym (same ∙ index)) (index_is_image rows))
+          (front_by _ _ _ _ (files_in (unrotated setup.site (log_of setup bodies) body)) new stands.number_is stands.length_is held),
+    )
 
 -- all was done
 pub logged : (injector next : Injector) (setup : LogSetup) (bodies : List EpochBody) (body : EpochBody) (row : IndexRow) (old new : ℕ → List ℕ) → StandsFor injector setup bodies old → next.site ≡ injector.site → next.limit ≡ injector.limit → next.tables ≡ injector.tables → next.index ≡ injector.index ++ row ∷ [] → row ≡ row_of setup.site (log_of setup bodies) body → new 0 ≡ index_file next.index → binlog.StandsFor next.files setup.site (rotated_at setup.site setup.limit (unrotated setup.site (log_of setup bodies) body)) new → StandsFor next setup (bodies ++ body ∷ []) new
@@ -119,11 +125,6 @@ logged injector next setup bodies body row old new stands same_site same_limit s
 pub size_there : (body : EpochBody) (position size : ℕ) → size ≡ length (epoch_bytes body position) → size ≡ length (epoch_bytes body 0)
 size_there body position size is = is ∙ epoch_same_length body position 0
 
--- what holds whatever the result is holds at an error
-pub at_an_error : {T E P : Type 0} (result : Result T E) → P → OnErr result P
-at_an_error (Ok value) holds = tt
-at_an_error (Err fault) holds = holds
-
 -- what an injector's fault says of the encoder's
 pub too_large_is : (fault : EncodeFault) (size : ℕ) → too_large_of fault ≡ faults.TooLarge size → fault ≡ encodes.TooLarge size
 too_large_is (encodes.TooLarge n) size same = let e : n ≡ size = cc in ap (λ (m : ℕ). encodes.TooLarge m) e
@@ -136,11 +137,6 @@ same_error a (Err fault) is b other = cc
 
 pub error_is : (a b : InjectFault) (result : Result (Unit {0}) InjectFault) → result ≡ Err a → result ≡ Err b → a ≡ b
 error_is a b result one other = same_error a result one b other
-
--- a weaker fact of a value that is there
-pub weaker_ok : {T E : Type 0} (P Q : T → Type 0) (result : Result T E) → ((value : T) → P value → Q value) → IfOk result P → IfOk result Q
-weaker_ok P Q (Ok value) weaker holds = weaker value holds
-weaker_ok P Q (Err fault) weaker holds = holds
 
 -- the log without a body is a new binlog, and has no row
 pub new_log : (site : SiteId) (limit : ℕ) → (binlog_of site limit [] ≡ new_binlog site) × (index_rows site limit [] ≡ [])

@@ -1,6 +1,6 @@
 -- How a log is opened again.
-use Rattle.std.proofs.Common.{◌≡◌, ℕ, ◌+◌, ◌-◌, ◌<◌, ◌≤◌, Bool, true, false, List, [], ◌∷◌, ◌++◌, length, take, get_or, refl, ap, sym, subst, ◌∙◌, inl, inr, arith, length-append, zero, suc}
-use Rattle.std.specs.Prelude.{◌⊎◌, Option, Some, None, IfSome, nat_le, if◌then◌else◌, All}
+use Rattle.std.proofs.Common.{◌≡◌, ℕ, ◌+◌, ◌-◌, ◌<◌, ◌≤◌, List, [], ◌∷◌, ◌++◌, length, take, get_or, refl, ap, sym, subst, ◌∙◌, inl, inr, arith, length-append, zero, suc}
+use Rattle.std.specs.Prelude.{◌⊎◌, Option, Some, None, IfSome, nat_le, All}
 use Rattle.std.specs.List.{last_or}
 use Rattle.std.proofs.lemmas.List.{length-take}
 use Rattle.std.proofs.Math.Seq.{get_or-append_seam}
@@ -8,13 +8,13 @@ use Rattle.rb_base.specs.declared.site.SiteId.{SiteId}
 use Rattle.rb_base.specs.declared.body.EpochBody.{EpochBody}
 use Rattle.rb_base.specs.declared.body.IndexRow.{IndexRow}
 use Rattle.rb_log_defs.specs.Epoch.{epoch_bytes}
-use Rattle.rb_log_defs.specs.File.{Binlog, new_binlog, file_start, rotated, rotated_at, binlog_of, binlog_files, index_rows}
+use Rattle.rb_log_defs.specs.File.{Binlog, files_in, new_binlog, rotated_at, binlog_of, binlog_files, index_rows}
 use Rattle.rb_log_defs.proofs.Sizes.{epoch_same_length}
 use Rattle.rb_device_defs.specs.Files.{file_at, HoldsFront}
 use Rattle.rb_device_defs.specs.Index.{HasRoom}
 use Rattle.rb_device_defs.specs.Image.{HoldsUpTo, IsLogImage, HasRoomInLog, CanBeLogged}
-use Rattle.rb_device_defs.proofs.FrontLaws.{files_in, HoldsToEnd, behind_front, to_end_when_rotated}
-use Rattle.rb_device_defs.proofs.RowLaws.{unrotated, last_below, few_full, rows_have_room}
+use Rattle.rb_device_defs.proofs.FrontLaws.{HoldsToEnd, behind_front, to_end_when_rotated}
+use Rattle.rb_device_defs.proofs.RowLaws.{unrotated, last_below, full_chosen, few_full, rows_have_room}
 use Rattle.rb_device_defs.proofs.ImageLaws.{row_of, last_row, last_body, up_to_epoch, epoch_up_to, binlog_with}
 use Rattle.rb_binlog.specs.Binlog as binlog
 use Rattle.rb_binlog.specs.declared.binlog.BinlogFiles.{BinlogFiles}
@@ -132,10 +132,6 @@ same_up_to site limit bodies old new same held = go (last_body bodies)
         subst (λ (r : Option IndexRow). HoldsUpTo r (binlog_files site limit bodies) new) (sym last) moved
 
 -- there is room for the number of one more file than are full
-full_chosen : (site : SiteId) (log : Binlog) (full : Bool) → length (if full then record log { closed = log.closed ++ rotated site (length log.closed + 1) log.last ∷ []; last = file_start site } else log).closed ≤ length log.closed + 1
-full_chosen site log true = omega (arith, length-append log.closed (rotated site (length log.closed + 1) log.last ∷ []))
-full_chosen site log false = omega arith
-
 pub closed_small : (site : SiteId) (limit : ℕ) (bodies : List EpochBody) → IfSome (last_or None (index_rows site limit bodies)) (λ row. row.file < 4294967294) → length (binlog_of site limit bodies).closed + 1 < 4294967296
 closed_small site limit bodies few = go (last_body bodies)
   where

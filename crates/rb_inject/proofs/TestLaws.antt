@@ -7,6 +7,7 @@ use Rattle.std.proofs.lemmas.List.Elements.{All-nil, All-cons}
 use Rattle.std.proofs.lemmas.List.Sorted.{IsNonDecreasingBy-short, IsNonDecreasingBy-push}
 use Rattle.rb_base.specs.Length.{length_bytes}
 use Rattle.rb_base.specs.declared.site.SiteId.TheVariants.{A}
+use Rattle.rb_base.specs.declared.schema.Mapped.{Mapped}
 use Rattle.rb_base.specs.declared.change.Change.{Change}
 use Rattle.rb_base.specs.declared.body.EpochBody.{EpochBody}
 use Rattle.rb_base.specs.declared.body.IndexRow.{IndexRow}
@@ -21,6 +22,7 @@ use Rattle.rb_device_defs.specs.Image.{IsLogImage, HasRoomInLog, CanBeLogged}
 use Rattle.rb_device_defs.specs.Index.{last_epoch_of}
 use Rattle.rb_device_defs.proofs.RowLaws.{few_full}
 use Rattle.rb_device_defs.proofs.ImageLaws.{last_row, whole_is_image}
+use Rattle.rb_disk.specs.declared.fault.DiskLogFault.{DiskLogFault}
 use Rattle.rb_message_defs.specs.declared.answers.Assembled.{Assembled}
 use Rattle.rb_inject.specs.Body.{body_of_assembled}
 use Rattle.rb_inject.specs.Injector.{LogSetup, StandsFor, CanBeRecovered, LeavesImage, written_of, last_file_of, body_for, bodies_with}
@@ -114,6 +116,19 @@ few_of earlier body few = subst (λ (row : Option IndexRow). IfSome row (λ r. r
 abbrev pub CanOpen : (seen : ℕ → List ℕ) → Type 0
 CanOpen seen = (bodies : List EpochBody) × CanBeRecovered opened_setup bodies seen
 
+none_logged : CanBeLogged []
+none_logged = record { room = All-nil HasRoomInLog; in_order = IsNonDecreasingBy-short (λ (body : EpochBody). body.epoch.0) [] (omega arith) }
+
+pub none_opens : (seen : ℕ → List ℕ) → IsLogImage A 512 [] seen → CanOpen seen
+none_opens seen image = (
+  [],
+  record {
+    image = image;
+    logged = none_logged;
+    few = subst (λ (rows : List IndexRow). IfSome (last_or None rows) (λ row. row.file < 4294967294)) (sym (new_log A 512).1) tt;
+  },
+)
+
 one_opens : (seen : ℕ → List ℕ) → IsLogImage A 512 (first ∷ []) seen → CanOpen seen
 one_opens seen image = (first ∷ [], record { image = image; logged = one_logged; few = few_of [] first (omega arith) })
 
@@ -122,7 +137,7 @@ two_open seen image = (first ∷ second ∷ [], record { image = image; logged =
 
 perhaps_two : (seen : ℕ → List ℕ) → LeavesImage opened_setup (first ∷ []) second seen → CanOpen seen
 perhaps_two seen (inl one) = one_opens seen one
-perhaps_two seen (inr two) = two_open seen two
+perhaps_two seen (inr two) = two_open seen two.1
 
 -- what a call leaves that was to log the second, whether it did or failed
 pub left_by : (injector : Injector) (assembled : Assembled) (result : Result (Injector × Bool) InjectFault) (old new : ℕ → List ℕ) → StandsFor injector opened_setup (first ∷ []) old → body_of_assembled A (table_t ∷ []) assembled ≡ second → IfOk result (λ pair. (setup : LogSetup) (bodies : List EpochBody) → StandsFor injector setup bodies old → StandsFor pair.0 setup (bodies_with bodies (body_of_assembled setup.site setup.tables assembled)) new) → OnErr result ((setup : LogSetup) (bodies : List EpochBody) → StandsFor injector setup bodies old → LeavesImage setup bodies (body_of_assembled setup.site setup.tables assembled) new) → CanOpen new
@@ -131,6 +146,34 @@ left_by injector assembled (Ok pair) old new stands is taken stopped =
 left_by injector assembled (Err fault) old new stands is taken stopped =
     perhaps_two new (subst (λ (body : EpochBody). LeavesImage opened_setup (first ∷ []) body new) is (stopped opened_setup (first ∷ []) stands))
 
+-- a log of site A with files of 512 bytes, for these tables
+abbrev setup_with : List Mapped → LogSetup
+setup_with tables = record { site = A; limit = 512; tables = tables }
+
+-- an opening did its work, and it failed
+abbrev Opened : List Mapped → Result Injector DiskLogFault → (old new : ℕ → List ℕ) → Type 0
+Opened tables result old new = IfOk result (λ injector. (bodies : List EpochBody) → CanBeRecovered (setup_with tables) bodies old → StandsFor injector (setup_with tables) bodies new)
+
+abbrev Kept : List Mapped → Result Injector DiskLogFault → (old new : ℕ → List ℕ) → Type 0
+Kept tables result old new = OnErr result ((bodies : List EpochBody) → CanBeRecovered (setup_with tables) bodies old → IsLogImage A 512 bodies new)
+
+-- what it leaves, whether it did or failed
+pub left_open : (tables : List Mapped) (result : Result Injector DiskLogFault) (old new : ℕ → List ℕ) → tables ≡ table_t ∷ [] → CanOpen old → Opened tables result old new → Kept tables result old new → CanOpen new
+left_open tables result old new is can opened kept =
+    go result can (subst (λ (ts : List Mapped). Opened ts result old new) is opened) (subst (λ (ts : List Mapped). Kept ts result old new) is kept)
+  where
+    go : (result : Result Injector DiskLogFault) → CanOpen old → Opened (table_t ∷ []) result old new → Kept (table_t ∷ []) result old new → CanOpen new
+    go (Ok injector) (bodies, can) opened kept = (bodies, record { image = whole_is_image A 512 bodies new (opened bodies can).held; logged = can.logged; few = can.few })
+    go (Err fault) (bodies, can) opened kept = (bodies, record { image = kept bodies can; logged = can.logged; few = can.few })
+
 -- a log of one epoch behind the call that logged it
 pub first_logged : (injector next : Injector) (assembled : Assembled) (old new : ℕ → List ℕ) → StandsFor injector opened_setup [] old → body_of_assembled A (table_t ∷ []) assembled ≡ first → ((setup : LogSetup) (bodies : List EpochBody) → StandsFor injector setup bodies old → StandsFor next setup (bodies_with bodies (body_of_assembled setup.site setup.tables assembled)) new) → StandsFor next opened_setup (first ∷ []) new
 first_logged injector next assembled old new stands is taken = subst (λ (body : EpochBody). StandsFor next opened_setup (bodies_with [] body) new) is (taken opened_setup [] stands)
+
+-- what a call leaves that was to log the first, where it failed
+perhaps_one : (seen : ℕ → List ℕ) → LeavesImage opened_setup [] first seen → CanOpen seen
+perhaps_one seen (inl none) = none_opens seen none
+perhaps_one seen (inr one) = one_opens seen one.1
+
+pub left_by_first : (injector : Injector) (assembled : Assembled) (old new : ℕ → List ℕ) → StandsFor injector opened_setup [] old → body_of_assembled A (table_t ∷ []) assembled ≡ first → ((setup : LogSetup) (bodies : List EpochBody) → StandsFor injector setup bodies old → LeavesImage setup bodies (body_of_assembled setup.site setup.tables assembled) new) → CanOpen new
+left_by_first injector assembled old new stands is stopped = perhaps_one new (subst (λ (body : EpochBody). LeavesImage opened_setup [] body new) is (stopped opened_setup [] stands))

@@ -7,6 +7,7 @@ use Rattle.rb_base.specs.declared.body.EpochBody.{EpochBody}
 use Rattle.rb_base.specs.declared.body.IndexRow.{IndexRow}
 use Rattle.rb_message_defs.specs.declared.answers.Assembled.{Assembled}
 use Rattle.rb_journal_defs.specs.Body.{has_something_to_log}
+use Rattle.rb_log_defs.specs.Epoch.{epoch_bytes}
 use Rattle.rb_log_defs.specs.Fits.{CanBeMapped}
 use Rattle.rb_log_defs.specs.File.{binlog_of, binlog_files, index_rows}
 use Rattle.rb_device_defs.specs.Index.{last_epoch_of}
@@ -61,9 +62,11 @@ body_for injector assembled = body_of_assembled injector.site injector.tables as
 abbrev pub bodies_with : List EpochBody → EpochBody → List EpochBody
 bodies_with bodies body = if has_something_to_log body then bodies ++ body ∷ [] else bodies
 
--- what a fault leaves: an image of the log without the epoch in hand, or with it
+-- what a fault leaves: an image of the log without the epoch in hand, or, where that is not too large, with it
 abbrev pub LeavesImage : LogSetup → List EpochBody → EpochBody → (seen : ℕ → List ℕ) → Type 0
-LeavesImage setup bodies body seen = IsLogImage setup.site setup.limit bodies seen ⊎ IsLogImage setup.site setup.limit (bodies ++ body ∷ []) seen
+LeavesImage setup bodies body seen =
+    IsLogImage setup.site setup.limit bodies seen
+    ⊎ ((length (epoch_bytes body 0) ≤ 2147483647) × IsLogImage setup.site setup.limit (bodies ++ body ∷ []) seen)
 
 -- a device on which a log of these bodies can be opened again: it is an image of it, the bodies can be logged, and the last row's file
 -- has a number that leaves room for one more

@@ -1,15 +1,13 @@
 -- How many changes bodies and journals have.
-use Rattle.std.proofs.Common.{◌≡◌, ◌≢◌, ℕ, zero, suc, ◌+◌, ◌<◌, ◌≤◌, Bool, true, false, cond, List, [], ◌∷◌, length, map, filter, refl, sym, ap, subst, ◌∙◌, inl, inr, arith, eq-eqb, ne_eqb, length-append}
-use Rattle.std.specs.Prelude.{◌⊎◌, ◌==◌, ◌||◌, sum_by, if◌then◌else◌}
-use Rattle.std.specs.List.{AllByRecursion, flat_map, enumerate_from}
+use Rattle.std.proofs.Common.{◌≡◌, ◌≢◌, ℕ, zero, suc, ◌+◌, ◌<◌, ◌≤◌, Bool, true, false, cond, List, [], ◌∷◌, length, filter, refl, sym, ap, subst, ◌∙◌, inl, inr, arith, eq-eqb, ne_eqb, length-append}
+use Rattle.std.specs.Prelude.{◌⊎◌, ◌==◌, sum_by, if◌then◌else◌}
+use Rattle.std.specs.List.{AllByRecursion, flat_map}
 use Rattle.std.proofs.lemmas.List.Sums.{sum_by-cons, sum_by-append}
 use Rattle.rb_base.specs.Bucket.{bucket_number}
 use Rattle.rb_base.specs.declared.site.SiteId.{SiteId}
 use Rattle.rb_base.specs.declared.change.Change.{Change}
-use Rattle.rb_base.specs.declared.schema.Schema.{Schema}
-use Rattle.rb_base.specs.declared.schema.Mapped.{Mapped}
 use Rattle.rb_journal_defs.specs.Journal.{Entry, Journal, epoch_of, changes_of}
-use Rattle.rb_journal_defs.specs.Body.{Shape, changes_in, in_bucket, part_of, numbers_below, is_logged, body_changes, is_named_in, mapped_table, mapped_tables}
+use Rattle.rb_journal_defs.specs.Body.{Shape, changes_in, in_bucket, part_of, numbers_below, is_logged, body_changes}
 use Rattle.rb_journal_defs.proofs.Order.{Rises, eq_or_ne}
 
 -- all changes of a journal
@@ -134,52 +132,3 @@ epoch_length site e (x ∷ j) =
     go : (b : Bool) → cond b (length (changes_of site x)) 0 ≤ length (changes_of site x)
     go true = omega arith
     go false = omega arith
-
--- tables whose numbers rise
-RiseFrom : ℕ → List Mapped → Type 0
-RiseFrom n [] = Unit {0}
-RiseFrom n (table ∷ tables) = (table.id ≡ n) × RiseFrom (suc n) tables
-
-mapped_rise : (n : ℕ) (schemas : List Schema) → RiseFrom n (map mapped_table (enumerate_from n schemas))
-unfolding RiseFrom
-mapped_rise n [] = tt
-mapped_rise n (schema ∷ schemas) = (refl, subst (λ (m : ℕ). RiseFrom m (map mapped_table (enumerate_from (n + 1) schemas))) (omega arith) (mapped_rise (n + 1) schemas))
-
-named_none : (k n : ℕ) (tables : List Mapped) → k < n → RiseFrom n tables → length (filter (λ table. k == table.id) tables) ≡ 0
-unfolding RiseFrom
-named_none k n [] l rise = refl
-named_none k n (table ∷ tables) l rise = let q = rise.0 in rw (ne_eqb k table.id (omega arith)) (named_none k (suc n) tables (omega arith) rise.1)
-
-named_once : (k n : ℕ) (tables : List Mapped) → RiseFrom n tables → length (filter (λ table. k == table.id) tables) ≤ 1
-unfolding RiseFrom
-named_once k n [] rise = omega arith
-named_once k n (table ∷ tables) rise = go (eq_or_ne k table.id) (named_once k (suc n) tables rise.1)
-  where
-    go : (k ≡ table.id) ⊎ (k ≢ table.id) → length (filter (λ table. k == table.id) tables) ≤ 1 → length (filter (λ table. k == table.id) (table ∷ tables)) ≤ 1
-    go (inl q) h = let p = rise.0 in let z : length (filter (λ table. k == table.id) tables) ≡ 0 = named_none k (suc n) tables (omega arith) rise.1 in rw (eq-eqb k table.id q) (omega arith)
-    go (inr d) h = rw (ne_eqb k table.id d) h
-
-either_length : {X : Type 0} → (f g : X → Bool) (xs : List X) → length (filter (λ x. f x || g x) xs) ≤ length (filter f xs) + length (filter g xs)
-either_length f g [] = omega arith
-either_length f g (x ∷ xs) = go (f x) (g x) (either_length f g xs)
-  where
-    go : (a b : Bool) → length (filter (λ x. f x || g x) xs) ≤ length (filter f xs) + length (filter g xs) → length (cond (a || b) (x ∷ filter (λ x. f x || g x) xs) (filter (λ x. f x || g x) xs)) ≤ length (cond a (x ∷ filter f xs) (filter f xs)) + length (cond b (x ∷ filter g xs) (filter g xs))
-    go true true h = omega arith
-    go true false h = omega arith
-    go false true h = omega arith
-    go false false h = omega arith
-
-named_length : (n : ℕ) (tables : List Mapped) (changes : List Change) → RiseFrom n tables → length (filter (is_named_in changes) tables) ≤ length changes
-named_length n tables [] rise = let z : length (filter (λ (table : Mapped). false) tables) ≡ 0 = none tables in omega arith
-  where
-    none : (tables : List Mapped) → length (filter (λ (table : Mapped). false) tables) ≡ 0
-    none [] = refl
-    none (table ∷ tables) = none tables
-named_length n tables (change ∷ changes) rise =
-    let e : length (filter (is_named_in (change ∷ changes)) tables) ≤ length (filter (λ table. change.table == table.id) tables) + length (filter (is_named_in changes) tables) = either_length (λ table. change.table == table.id) (is_named_in changes) tables in
-    let o = named_once change.table n tables rise in
-    let rest = named_length n tables changes rise in omega arith
-
--- changes name no more declared tables than there are changes
-pub tables_length : (schemas : List Schema) (changes : List Change) → length (filter (is_named_in changes) (mapped_tables schemas)) ≤ length changes
-tables_length schemas changes = named_length 1 (mapped_tables schemas) changes (mapped_rise 1 schemas)

@@ -1,8 +1,12 @@
 -- How many bytes each event has, wherever it starts.
-use Rattle.std.proofs.Common.{◌≡◌, ◌≤◌, ◌*◌, ℕ, ◌+◌, List, [], ◌∷◌, ◌++◌, length, refl, arith, length-append}
+use Rattle.std.proofs.Common.{◌≡◌, ◌≤◌, ◌<◌, ◌*◌, ℕ, ◌+◌, ◌-◌, List, [], ◌∷◌, ◌++◌, length, refl, arith, length-append}
 use Rattle.std.proofs.lemmas.List.{length-replicate, length-map}
 use Rattle.std.proofs.lemmas.Grind.{common_steps}
-use Rattle.std.specs.Prelude.{map, codes}
+use Rattle.std.proofs.lemmas.Fmt.{length-decimal-le}
+use Rattle.std.specs.Prelude.{map, codes, replicate}
+use Rattle.std.specs.Fmt.{decimal}
+use Rattle.rb_base.specs.declared.site.SiteId.{SiteId}
+use Rattle.rb_base.specs.declared.site.SiteId.TheVariants.{A, B}
 use Rattle.rb_base.specs.declared.change.Change.{Change}
 use Rattle.rb_base.specs.declared.body.EpochBody.{EpochBody}
 use Rattle.rb_log_defs.specs.Rows.{rows_type, change_payload, end_flag, status_payload, status_event}
@@ -12,6 +16,7 @@ use Rattle.rb_base.specs.declared.schema.Column.{Column}
 use Rattle.rb_base.specs.declared.schema.Column.TheVariants.{Num, Long, Text}
 use Rattle.rb_base.specs.declared.schema.Mapped.{Mapped}
 use Rattle.rb_log_defs.specs.Table.{all_metadata, bitmap_size, table_map_payload, table_map_event, columns_of, status_table}
+use Rattle.rb_log_defs.specs.File.{base_name, file_name}
 use Rattle.rb_log_defs.specs.Fits.{CanBeMapped}
 use Rattle.rb_log_defs.specs.Event.{Placed, header_bytes, event_bytes, query_payload, query_event, rotate_payload, rotate_event, format_payload, format_event, xid_payload, xid_event}
 
@@ -131,3 +136,20 @@ events_same_length body =
 pub epoch_same_length : (body : EpochBody) (start other : ℕ) → length (epoch_bytes body start) ≡ length (epoch_bytes body other)
 unfolding epoch_bytes
 epoch_same_length body start other = joined_same_length (epoch_events body) (events_same_length body) start other
+
+base_length : (site : SiteId) → length (base_name site) ≡ 6
+base_length A = refl
+base_length B = refl
+
+-- a file's name, whose number has at most ten digits
+pub name_length : (site : SiteId) (number : ℕ) → number < 10000000000 → length (file_name site number) ≤ 16
+name_length site number few =
+    let digits : length (decimal number) ≤ 10 = length-decimal-le 10 number (omega arith) (omega arith) (omega arith) in
+    let zero_digit : ℕ = 48 in
+    omega (
+      arith,
+      length-append (base_name site) (replicate (6 - length (decimal number)) zero_digit ++ decimal number),
+      length-append (replicate (6 - length (decimal number)) zero_digit) (decimal number),
+      length-replicate (6 - length (decimal number)) zero_digit,
+      base_length site,
+    )

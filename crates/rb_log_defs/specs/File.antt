@@ -34,6 +34,10 @@ pub record Binlog : Type 0 where
   pub last : List ℕ
   pub rows : List IndexRow
 
+-- its files, file 1 first
+abbrev pub files_in : Binlog → List (List ℕ)
+files_in log = log.closed ++ log.last ∷ []
+
 -- a binlog without an epoch
 abbrev pub new_binlog : SiteId → Binlog
 new_binlog site = record { closed = []; last = file_start site; rows = [] }
@@ -57,9 +61,9 @@ with_epoch site limit log body =
 unfoldable pub binlog_of : SiteId → (limit : ℕ) → List EpochBody → Binlog
 binlog_of site limit bodies = fold (with_epoch site limit) (new_binlog site) bodies
 
--- its files, file 1 first
+-- the files of that
 abbrev pub binlog_files : SiteId → (limit : ℕ) → List EpochBody → List (List ℕ)
-binlog_files site limit bodies = let log = binlog_of site limit bodies in log.closed ++ log.last ∷ []
+binlog_files site limit bodies = files_in (binlog_of site limit bodies)
 
 -- its index rows, the oldest first
 abbrev pub index_rows : SiteId → (limit : ℕ) → List EpochBody → List IndexRow

@@ -1,18 +1,15 @@
 ghost use Rattle.std.specs.Prelude.{◌≡◌, ◌<◌, ◌*◌, ◌++◌, length, take, drop, IfOk, OnOk};
-ghost use Rattle.rb_log_defs.specs.File.{base_name as base_of, file_name as name_of};
 ghost use Rattle.rb_text_defs.specs.Report.{letter_of};
 ghost use Rattle.rb_logs.specs.Dump.{bytes_line, bytes_text, dump_text, file_text, heading as heading_of, log_name as name_in_log, offset_text, site_text};
 
 use byteorder::{BigEndian, ByteOrder};
 use rb_base::{Bytes, NoMemory, SiteId};
+use rb_codec::file_name;
 use rb_disk::{LogDisk, MemoryDisk};
 use std::alloc::Global;
 
 /// How many bytes a line shows at most.
 const LINE_SIZE: usize = 32;
-
-/// How many digits the number in a binlog file's name has at least.
-const LEAST_DIGITS: usize = 6;
 
 /// The files of both sites as text, site A's first: for each file that is not empty its name and length, and its bytes in
 /// hexadecimal. It fails only for want of memory.
@@ -103,35 +100,8 @@ fn put_name(alloc: Global, text: &mut Vec<u8>, site: SiteId, number: u32) -> Res
         text.extend_from_slice(b"ndb_binlog_index")?;
         return Ok(());
     }
-    put_file_name(alloc, text, site, number)?;
+    text.extend_from_slice(&file_name(alloc, site, number)?)?;
     Ok(())
-}
-
-// Appends the name of a binlog file: its site's, and the number in at least six digits.
-fn put_file_name(
-    alloc: Global,
-    text: &mut Vec<u8>,
-    site: SiteId,
-    number: u32,
-) -> Result<(), NoMemory>
-    ensures { OnOk result (text.new.items ≡ text.old.items ++ name_of site number) }
-{
-    let digits = number.to_string(alloc)?;
-    let zeros = vec![in alloc; b'0'; LEAST_DIGITS.saturating_sub(digits.len())]?;
-    text.extend_from_slice(base_name(site))?;
-    text.extend_from_slice(&zeros)?;
-    text.extend_from_slice(digits.as_bytes())?;
-    Ok(())
-}
-
-// What the names of a site's binlog files begin with.
-fn base_name(site: SiteId) -> &'static [u8]
-    ensures { result.now ≡ base_of site }
-{
-    match site {
-        SiteId::A => b"a-bin.",
-        SiteId::B => b"b-bin.",
-    }
 }
 
 // Appends these bytes, in lines.

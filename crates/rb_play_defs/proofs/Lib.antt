@@ -2,6 +2,7 @@ pub mod Sounds
 pub mod Takes
 pub mod Restarts
 pub mod Grows
+pub mod Columns
 pub mod Fits
 pub mod Counts
 pub mod Tables

@@ -1,7 +1,6 @@
 -- Texts that are made piece by piece.
-use Rattle.std.proofs.Common.{◌≡◌, ℕ, ◌+◌, ◌<◌, List, [], ◌∷◌, ◌++◌, length, map, take, get_or, refl, ap, sym, ◌∙◌, append_assoc, append-nil, ◌-◌, arith}
-use Rattle.std.specs.Prelude.{None, Some}
-use Rattle.std.specs.List.{slice_get, last_or, concat, flat_map}
+use Rattle.std.proofs.Common.{◌≡◌, ℕ, ◌+◌, ◌<◌, List, [], ◌∷◌, ◌++◌, length, map, take, get_or, refl, ap, sym, ◌∙◌, append_assoc, append-nil}
+use Rattle.std.specs.List.{concat, flat_map}
 use Rattle.std.proofs.lemmas.List.{take_more, map_more, flat_map_more}
 
 -- a piece, and a last one
@@ -50,12 +49,3 @@ one_more_put f old text now xs i d lt before put = put ∙ ap (λ text. text ++ 
 pub one_more_put_of : {X : Type 0} (f : X → List ℕ) (old text now : List ℕ) (xs : List X) (i : ℕ) (d : X) → i < length xs → text ≡ old ++ concat (map f (take i xs))
     → now ≡ text ++ f (get_or xs i d) → now ≡ old ++ concat (map f (take (i + 1) xs))
 one_more_put_of f old text now xs i d lt before put = put ∙ ap (λ text. text ++ f (get_or xs i d)) before ∙ one_more_of f old xs i d lt
-
--- the last of some items, by its place
-last_from : {X : Type 0} (x : X) (xs : List X) → slice_get (x ∷ xs) (length xs) ≡ last_or (Some x) xs
-last_from x [] = refl
-last_from x (y ∷ ys) = last_from y ys
-
-pub last_got : {X : Type 0} (xs : List X) → slice_get xs (length xs - 1) ≡ last_or None xs
-last_got [] = refl
-last_got (x ∷ xs) = let e : length (x ∷ xs) - 1 ≡ length xs = omega arith in rw e (last_from x xs)

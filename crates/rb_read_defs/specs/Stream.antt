@@ -19,7 +19,6 @@ use Rattle.rb_read_defs.specs.declared.answers.Content.TheVariants.{Formats, Beg
 use Rattle.rb_read_defs.specs.declared.answers.Header.{Header}
 use Rattle.rb_read_defs.specs.declared.answers.QueryText.{QueryText}
 use Rattle.rb_read_defs.specs.declared.answers.QueryText.TheVariants.{Begin, Commit}
-use Rattle.rb_read_defs.specs.declared.answers.RotateTo.{RotateTo}
 use Rattle.rb_read_defs.specs.declared.answers.StatusRow.{StatusRow}
 use Rattle.rb_read_defs.specs.declared.answers.Step.{Step}
 use Rattle.rb_read_defs.specs.declared.answers.Step.TheVariants as steps

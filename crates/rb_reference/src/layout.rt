@@ -3,10 +3,9 @@ ghost use Rattle.rb_log_defs.specs.Fits.{CanBeWritten};
 ghost use Rattle.rb_log_defs.specs.File.{file_start, rotated, new_binlog, rotated_at, with_epoch, binlog_of, binlog_files, index_rows};
 ghost use Rattle.rb_reference.specs.Standing.{binlog_in, AreSmall};
 
-use crate::name::file_name;
 use crate::row::index_row;
 use rb_base::{Bytes, EpochBody, IndexRows, NoMemory, SiteId};
-use rb_codec::{write_format, write_rotate};
+use rb_codec::{file_name, write_format, write_rotate};
 use rb_etx::write_epoch;
 use std::alloc::Global;
 

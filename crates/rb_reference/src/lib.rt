@@ -7,7 +7,6 @@
 
 mod index;
 mod layout;
-mod name;
 mod row;
 
 pub use index::{index_file, position_after};

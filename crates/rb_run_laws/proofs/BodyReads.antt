@@ -1,6 +1,6 @@
 -- The body of an epoch of site A is read back, where the changes of its journal fit the tables and have room.
-use Rattle.std.proofs.Common.{◌≡◌, ℕ, ◌+◌, ◌*◌, ◌<◌, ◌≤◌, ◌^◌, Bool, true, false, cond, List, [], ◌∷◌, length, map, filter, refl, sym, ap, subst, ◌∙◌, arith, eq-eqb, eqb-true}
-use Rattle.std.specs.Prelude.{◌==◌, ◌||◌, not, codes, Option, Some, None, IfSome}
+use Rattle.std.proofs.Common.{◌≡◌, ℕ, ◌+◌, ◌*◌, ◌<◌, ◌≤◌, ◌^◌, Bool, true, false, cond, List, [], ◌∷◌, length, map, filter, refl, sym, subst, arith, eqb-true}
+use Rattle.std.specs.Prelude.{◌==◌, not, codes, Option, Some, None, IfSome}
 use Rattle.std.specs.List.{AllByRecursion, flat_map}
 use Rattle.std.proofs.lemmas.Bool.{and_parts}
 use Rattle.std.proofs.lemmas.List.Elements.{All-from_recursion}
@@ -29,41 +29,18 @@ use Rattle.rb_message_defs.proofs.Messages.{all_more, all_joined}
 use Rattle.rb_text_defs.specs.Script.{most_tables}
 use Rattle.rb_text_defs.specs.Legal.{IsLegalTable}
 use Rattle.rb_play_defs.specs.Fitting.{FitsTables, JournalFits}
+use Rattle.rb_play_defs.proofs.Columns.{names, named_here, columns_kept, short_of}
 use Rattle.rb_play_defs.proofs.Fits.{all_filtered, body_fits}
 use Rattle.rb_read_defs.specs.Readable.{HasKey, IsReadableTable, IsReadableChange, IsReadable}
 use Rattle.rb_read_defs.specs.Rows.{number_in}
 use Rattle.rb_run_laws.proofs.LegalFits.{count_mapped}
-use Rattle.rb_run_laws.proofs.NamedTables.{names, named_as_read}
+use Rattle.rb_run_laws.proofs.NamedTables.{named_as_read}
 use Rattle.rb_run_laws.proofs.Room.{HasRoom, JournalHasRoom, body_room}
-use Rattle.rb_run_laws.proofs.TableRoom.{TableHasRoom, tables_room, short_of}
+use Rattle.rb_run_laws.proofs.TableRoom.{TableHasRoom, tables_room}
 
 -- site A over the tables of a script
 abbrev pub primary : (buckets : ℕ) → List Schema → Shape
 primary buckets schemas = record { site = A; buckets = buckets; tables = mapped_tables schemas }
-
--- each change names a table that changes name
-named_here : (changes : List Change) → AllByRecursion (λ change. names changes change.table ≡ true) changes
-named_here [] = tt
-named_here (c ∷ changes) = (
-  ap (λ (b : Bool). b || names changes c.table) (eq-eqb c.table c.table refl),
-  all_more (λ change. names changes change.table ≡ true) (λ change. names (c ∷ changes) change.table ≡ true) changes (λ change there. or_more (c.table == change.table) _ there) (named_here changes),
-)
-  where
-    or_more : (a b : Bool) → b ≡ true → (a || b) ≡ true
-    or_more true b there = refl
-    or_more false b there = there
-
--- the columns of a table that is named are those among all tables
-columns_kept : (changes : List Change) (tables : List Mapped) (n : ℕ) → names changes n ≡ true → columns_of (filter (is_named_in changes) tables) n ≡ columns_of tables n
-columns_kept changes [] n named = refl
-columns_kept changes (t ∷ tables) n named = go (t.id == n) (is_named_in changes t) refl refl (columns_kept changes tables n named)
-  where
-    go : (is kept : Bool) → (t.id == n) ≡ is → is_named_in changes t ≡ kept → columns_of (filter (is_named_in changes) tables) n ≡ columns_of tables n →
-        columns_of (cond kept (t ∷ filter (is_named_in changes) tables) (filter (is_named_in changes) tables)) n ≡ columns_of (t ∷ tables) n
-    go true true q k rest = rw q refl
-    go true false q k rest = absurd (let tn : t.id ≡ n = eqb-true t.id n q in let g : true ≡ false = sym named ∙ ap (names changes) (sym tn) ∙ k in cc)
-    go false true q k rest = rw q rest
-    go false false q k rest = rw q rest
 
 -- the first number of a row that has a key first
 keyed : (key : ℕ) (row : Option Row) → IfSome row (λ row. key_in row.values ≡ Some key) → HasKey key row
@@ -89,13 +66,13 @@ record Reads (columns : List Column) (change : Change) : Type 0 where
   short : AreShort columns
   readable : IsReadableChange 1 columns change
 
-all_read : (tables : List Mapped) (whole changes : List Change) → AllByRecursion TableHasRoom tables → AllByRecursion (FitsTables tables) changes → AllByRecursion HasRoom changes → AllByRecursion (λ change. is_logged A change ≡ true) changes →
+all_read : (tables : List Mapped) (whole changes : List Change) → AllByRecursion (λ table. AreShort table.columns) tables → AllByRecursion (FitsTables tables) changes → AllByRecursion HasRoom changes → AllByRecursion (λ change. is_logged A change ≡ true) changes →
     AllByRecursion (λ change. names whole change.table ≡ true) changes → AllByRecursion (λ change. Reads (columns_of (filter (is_named_in whole) tables) change.table) change) changes
-all_read tables whole [] small fits room logged named = tt
-all_read tables whole (c ∷ changes) small fits room logged named =
+all_read tables whole [] short fits room logged named = tt
+all_read tables whole (c ∷ changes) short fits room logged named =
     let same : columns_of (filter (is_named_in whole) tables) c.table ≡ columns_of tables c.table = columns_kept whole tables c.table named.0 in (
       subst (λ (columns : List Column). Reads columns c) (sym same) (record {
-        short = short_of tables c.table small;
+        short = short_of tables c.table short;
         readable = record {
           fits = fits.0.fits;
           before = room.0.before;
@@ -106,7 +83,7 @@ all_read tables whole (c ∷ changes) small fits room logged named =
           transid = room.0.transid;
         };
       }),
-      all_read tables whole changes small fits.1 room.1 logged.1 named.1,
+      all_read tables whole changes short fits.1 room.1 logged.1 named.1,
     )
 
 -- an event that a reader accepts by its length
@@ -161,7 +138,7 @@ are_read buckets schemas epoch journal legal few fits room =
     record {
       declared = here;
       tables = all_filtered TableHasRoom (is_named_in changes) (mapped_tables schemas) whole;
-      each = all_read (mapped_tables schemas) changes changes whole here (body_room shape epoch journal room) (all_pass (is_logged A) (flat_map (λ bucket. part_of shape epoch bucket journal) (numbers_below buckets))) (named_here changes);
+      each = all_read (mapped_tables schemas) changes changes (all_more TableHasRoom (λ table. AreShort table.columns) (mapped_tables schemas) (λ table held. held.short) whole) here (body_room shape epoch journal room) (all_pass (is_logged A) (flat_map (λ bucket. part_of shape epoch bucket journal) (numbers_below buckets))) (named_here changes);
     }
 
 -- the body of an epoch is read back

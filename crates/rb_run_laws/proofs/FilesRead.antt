@@ -1,13 +1,10 @@
 -- The files of a binlog are read back, one after the other.
 use Rattle.std.proofs.Common.{◌≡◌, ℕ, ◌+◌, ◌-◌, ◌<◌, ◌≤◌, ◌^◌, Bool, true, false, cond, List, [], ◌∷◌, ◌++◌, length, fold, refl, sym, ap, subst, ◌∙◌, arith, append_assoc, append-nil, length-append}
-use Rattle.std.specs.Prelude.{nat_le, replicate, sum_by, if◌then◌else◌, ◌==◌, None, All}
+use Rattle.std.specs.Prelude.{nat_le, sum_by, if◌then◌else◌, ◌==◌, None, All}
 use Rattle.std.specs.List.{AllByRecursion}
 use Rattle.std.proofs.lemmas.Bool.{le-ltb}
 use Rattle.std.proofs.lemmas.Bool.Decides.{nat_tests}
-use Rattle.std.proofs.lemmas.Fmt.{length-decimal-le}
-use Rattle.std.proofs.lemmas.List.{length-replicate}
 use Rattle.std.proofs.lemmas.List.Sums.{sum_by-cons}
-use Rattle.std.specs.Fmt.{decimal}
 use Rattle.std.proofs.lemmas.List.Elements.{recursion_from_All}
 use Rattle.rb_base.specs.Site.{server_of}
 use Rattle.rb_base.specs.declared.site.SiteId.{SiteId}
@@ -15,8 +12,8 @@ use Rattle.rb_base.specs.declared.site.SiteId.TheVariants.{A, B}
 use Rattle.rb_base.specs.declared.body.EpochBody.{EpochBody}
 use Rattle.rb_log_defs.specs.Event.{format_payload, format_event, rotate_payload, rotate_event}
 use Rattle.rb_log_defs.specs.Epoch.{epoch_bytes}
-use Rattle.rb_log_defs.specs.File.{Binlog, new_binlog, base_name, file_name, file_start, rotated, with_epoch, binlog_of, binlog_files}
-use Rattle.rb_log_defs.proofs.Sizes.{event_length, format_length, format_payload_length, rotate_payload_length, rotate_length}
+use Rattle.rb_log_defs.specs.File.{Binlog, new_binlog, file_name, file_start, rotated, with_epoch, binlog_of, binlog_files}
+use Rattle.rb_log_defs.proofs.Sizes.{event_length, format_length, format_payload_length, rotate_payload_length, rotate_length, name_length}
 use Rattle.rb_read_defs.specs.Readable.{IsReadable}
 use Rattle.rb_read_defs.specs.Stream.{Known, Seen, cuts, cut_from, content_in, is_open, open_epoch, is_rotated, seen_from, seen_of, settled_at, steps_of}
 use Rattle.rb_read_defs.specs.declared.answers.Content.TheVariants.{Formats, Rotates}
@@ -134,22 +131,6 @@ file_read site done file is =
 -- and so is one that is full
 not_four : (at : ℕ) → 4 < at → (at == 4) ≡ false
 not_four at behind = grind (arith, nat_tests)
-
-base_length : (site : SiteId) → length (base_name site) ≡ 6
-base_length A = refl
-base_length B = refl
-
-name_length : (site : SiteId) (number : ℕ) → number < 10000000000 → length (file_name site number) ≤ 16
-name_length site number few =
-    let digits : length (decimal number) ≤ 10 = length-decimal-le 10 number (omega arith) (omega arith) (omega arith) in
-    let zero_digit : ℕ = 48 in
-    omega (
-      arith,
-      length-append (base_name site) (replicate (6 - length (decimal number)) zero_digit ++ decimal number),
-      length-append (replicate (6 - length (decimal number)) zero_digit) (decimal number),
-      length-replicate (6 - length (decimal number)) zero_digit,
-      base_length site,
-    )
 
 full_read : (site : SiteId) (number : ℕ) (done : List EpochBody) (file : List ℕ) → IsFile site done file → number + 1 < 10000000000 → length (rotated site number file) < 2 ^ 32 → IsReadAs site done (steps.Rotate 4 (file_name site (number + 1)) ∷ []) (rotated site number file)
 unfolding cut_from seen_from content_in steps_of

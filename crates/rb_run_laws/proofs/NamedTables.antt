@@ -2,12 +2,13 @@
 -- ascending.
 use Rattle.std.proofs.Common.{◌≡◌, ℕ, ◌+◌, ◌<◌, ◌≤◌, Bool, true, false, cond, List, [], ◌∷◌, length, map, filter, refl, sym, ap, subst, ◌∙◌, inl, inr, arith, eq-eqb, eqb-true, ne_eqb}
 use Rattle.std.specs.Prelude.{◌⊎◌, ◌==◌, ◌||◌, nat_lt, fold, if◌then◌else◌}
-use Rattle.std.specs.List.{AllByRecursion, enumerate_from, list_any}
+use Rattle.std.specs.List.{AllByRecursion, enumerate_from}
 use Rattle.std.proofs.lemmas.Bool.{cases_lt}
 use Rattle.rb_base.specs.declared.schema.Mapped.{Mapped}
 use Rattle.rb_base.specs.declared.schema.Schema.{Schema}
 use Rattle.rb_base.specs.declared.change.Change.{Change}
 use Rattle.rb_journal_defs.specs.Body.{is_named_in, mapped_table, mapped_tables}
+use Rattle.rb_play_defs.proofs.Columns.{names}
 use Rattle.rb_read_defs.specs.Stream.{among, tables_named}
 use Rattle.rb_read_defs.proofs.TablesNamed.{Ascend, has, ids_of, same_id, tables_ascend}
 
@@ -29,10 +30,6 @@ has_among n id (x ∷ xs) = go (nat_lt id x) (id == x) refl (has_among n id xs)
     go true c q rest = refl
     go false true q rest = subst (λ (y : ℕ). ((x == n) || has n xs) ≡ ((y == n) || ((x == n) || has n xs))) (sym (eqb-true id x q)) (twice (x == n) (has n xs))
     go false false q rest = ap (λ (b : Bool). (x == n) || b) rest ∙ or_swap (x == n) (id == n) (has n xs)
-
--- a change names this table
-abbrev pub names : List Change → (id : ℕ) → Bool
-names changes id = list_any (λ change. change.table == id) changes
 
 has_from : (n : ℕ) (ids : List ℕ) (changes : List Change) → has n (fold (λ ids change. among change.table ids) ids changes) ≡ (names changes n || has n ids)
 has_from n ids [] = refl

@@ -21,7 +21,7 @@ use Rattle.rb_journal_defs.specs.Body.{Shape, body_of, has_something_to_log, com
 use Rattle.rb_journal_defs.specs.Clock.{epoch_after}
 use Rattle.rb_journal_defs.specs.Order.{InOrder}
 use Rattle.rb_journal_defs.proofs.Counts.{changes_made}
-use Rattle.rb_journal_defs.specs.Transaction.{Refusal, refusal_of, change_over, changes_made as changes_made_by}
+use Rattle.rb_journal_defs.specs.Transaction.{Refusal, refusal_of, change_over}
 use Rattle.rb_message_defs.specs.Nodes.{node_at, successor_of, with_restart}
 use Rattle.rb_message_defs.specs.Received.{answer_to}
 use Rattle.rb_message_defs.proofs.Messages.{all_joined, all_mapped, all_more}
@@ -246,7 +246,13 @@ keeps_play script legal =
     keeps_on (script.setup.a.groups * script.setup.a.replicas) script.setup.tables (script.setup.a.groups * script.setup.a.replicas) (not_played script.setup) script.events legal.events
     (record { fits = tt; room = tt; order = omega arith; epochs = tt; opened = omega arith; drawn = omega arith; few_epochs = omega (arith, legal.few_events); few_changes = omega (arith, legal.few_changes) })
 
--- each body that a legal script's run writes is read back
+-- each body that a legal script's run completes is read back
+pub completed_readable : (script : Script) → IsLegal script → All IsReadable (completed_bodies (shape_of script.setup) (play script).run.journal)
+completed_readable script legal =
+    All-from_recursion IsReadable (completed_bodies (shape_of script.setup) (play script).run.journal)
+    (completed_read (script.setup.a.groups * script.setup.a.replicas) script.setup.tables (play script).run legal.tables legal.few_tables (keeps_play script legal))
+
+-- and so is each that it writes
 pub written_read : (script : Script) → IsLegal script → All IsReadable (log_of script)
 written_read script legal =
     All-from_recursion IsReadable (log_of script)

@@ -1,42 +1,20 @@
 -- The tables of a legal script have room in the log, and so do the rows that fit them.
-use Rattle.std.proofs.Common.{◌≡◌, ℕ, ◌+◌, ◌<◌, ◌≤◌, Bool, true, false, cond, List, [], ◌∷◌, length, map, refl, arith, length-append}
-use Rattle.std.specs.Prelude.{◌==◌, sum_by, Some, find}
+use Rattle.std.proofs.Common.{◌≡◌, ℕ, ◌+◌, ◌<◌, ◌≤◌, List, [], ◌∷◌, length, map, refl, arith}
+use Rattle.std.specs.Prelude.{sum_by}
 use Rattle.std.specs.List.{AllByRecursion, enumerate_from}
-use Rattle.std.specs.Option.{option_map_or}
 use Rattle.std.proofs.lemmas.List.Elements.{All-from_recursion}
 use Rattle.std.proofs.lemmas.List.Sums.{sum_by-append}
 use Rattle.rb_base.specs.declared.schema.Column.{Column}
 use Rattle.rb_base.specs.declared.schema.Column.TheVariants.{Num, Long, Text}
 use Rattle.rb_base.specs.declared.schema.Mapped.{Mapped}
 use Rattle.rb_base.specs.declared.schema.Schema.{Schema}
-use Rattle.rb_base.specs.declared.row.Value.{Value}
 use Rattle.rb_base.specs.declared.row.Value.TheVariants as values
-use Rattle.rb_log_defs.specs.Table.{columns_of}
-use Rattle.rb_log_defs.specs.Rows.{value_bytes, values_bytes}
-use Rattle.rb_log_defs.specs.Fits.{FitsColumn, FitsColumns}
-use Rattle.rb_log_defs.proofs.Bounds.{AreShort, IsNarrow, text_bound}
+use Rattle.rb_log_defs.proofs.Bounds.{AreShort, IsNarrow}
 use Rattle.rb_journal_defs.specs.Body.{mapped_table}
 use Rattle.rb_text_defs.specs.Script.{column_bytes}
 use Rattle.rb_text_defs.specs.Legal.{IsLegalTable}
+use Rattle.rb_play_defs.proofs.Columns.{values_short}
 use Rattle.rb_read_defs.specs.Readable.{IsColumn, IsReadableTable}
-
-value_short : (column : Column) (value : Value) → FitsColumn column value → length (value_bytes column value) ≤ column_bytes column
-value_short Num (values.Num n) fits = omega arith
-value_short Num (values.Text text) fits = absurd fits
-value_short Long (values.Num n) fits = omega arith
-value_short Long (values.Text text) fits = absurd fits
-value_short (Text most) (values.Num n) fits = absurd fits
-value_short (Text most) (values.Text text) fits = text_bound most text fits
-
--- values that fit take no more bytes than their columns let them
-values_short : (columns : List Column) (row : List Value) → FitsColumns columns row → length (values_bytes columns row) ≤ sum_by column_bytes columns
-values_short [] [] fits = omega arith
-values_short [] (value ∷ row) fits = absurd fits
-values_short (column ∷ columns) [] fits = absurd fits
-values_short (column ∷ columns) (value ∷ row) fits =
-    let bytes : length (values_bytes (column ∷ columns) (value ∷ row)) ≡ length (value_bytes column value) + length (values_bytes columns row) = length-append (value_bytes column value) (values_bytes columns row) in
-    let most : sum_by column_bytes (column ∷ columns) ≡ sum_by column_bytes (column ∷ []) + sum_by column_bytes columns = sum_by-append column_bytes (column ∷ []) columns in
-    omega (arith, bytes, most, value_short column value fits.0, values_short columns row fits.1)
 
 -- a text of a short row is short
 column_room : (column : Column) → column_bytes column ≤ 1000 → IsColumn column
@@ -78,12 +56,3 @@ table_room id table legal some few =
 pub tables_room : (n : ℕ) (tables : List Schema) → AllByRecursion IsLegalTable tables → 0 < n → n + length tables ≤ 65536 → AllByRecursion TableHasRoom (map mapped_table (enumerate_from n tables))
 tables_room n [] legal some few = tt
 tables_room n (table ∷ tables) legal some few = (table_room n table legal.0 some (omega arith), tables_room (n + 1) tables legal.1 (omega arith) (omega arith))
-
--- the columns of such tables have short rows
-pub short_of : (tables : List Mapped) (n : ℕ) → AllByRecursion TableHasRoom tables → AreShort (columns_of tables n)
-short_of [] n room = record { few = omega arith; short = λ row fits. omega (arith, values_short [] row fits) }
-short_of (t ∷ tables) n room = go (t.id == n) (short_of tables n room.1)
-  where
-    go : (b : Bool) → AreShort (columns_of tables n) → AreShort (option_map_or (λ (table : Mapped). table.columns) (cond b (Some t) (find (λ (table : Mapped). table.id == n) tables)) [])
-    go true rest = room.0.short
-    go false rest = rest

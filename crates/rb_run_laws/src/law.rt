@@ -3,10 +3,11 @@ ghost use Rattle.rb_base.specs.declared.site.SiteId.{SiteId};
 ghost use Rattle.rb_base.specs.declared.site.SiteId.TheVariants.{A};
 ghost use Rattle.rb_base.specs.declared.body.EpochBody.{EpochBody};
 ghost use Rattle.rb_log_defs.specs.File.{binlog_files};
+ghost use Rattle.rb_journal_defs.specs.Body.{completed_bodies};
 ghost use Rattle.rb_text_defs.specs.declared.script.Script.{Script};
 ghost use Rattle.rb_text_defs.specs.Script.{script_of};
 ghost use Rattle.rb_text_defs.specs.Legal.{IsLegal};
-ghost use Rattle.rb_play_defs.specs.Play.{log_of, files_of};
+ghost use Rattle.rb_play_defs.specs.Play.{shape_of, play, log_of, files_of};
 ghost use Rattle.rb_read_defs.specs.Readable.{IsReadable};
 ghost use Rattle.rb_run_laws.specs.Files.{AreReadAs};
 
@@ -16,6 +17,11 @@ ghost use Rattle.rb_run_laws.specs.Files.{AreReadAs};
 pub fn written_epochs_are_readable()
     ensures legal { (script : Script) → IsLegal script → All IsReadable (log_of script) }
     ensures read { (bytes : List ℕ) (script : Script) → script_of bytes ≡ Ok script → All IsReadable (log_of script) }
+{}
+
+/// So can each epoch that it completes, whether the injector has written it or not.
+pub fn completed_epochs_are_readable()
+    ensures { (script : Script) → IsLegal script → All IsReadable (completed_bodies (shape_of script.setup) (play script).run.journal) }
 {}
 
 /// A log of readable epochs is read back as it was written, whatever the length is from which its files are rotated: each file to its

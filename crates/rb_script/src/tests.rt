@@ -281,7 +281,7 @@ fn reads_failures(rt: HostRuntime) -> Result<(), Fail> {
         "it is a script",
     ))?;
     let [fail, restart, resend, injector] = script.events.as_slice() else {
-        return Err("it has three events".into());
+        return Err("it has four events".into());
     };
     assert!(rt; fail.line == 1 && restart.line == 2 && resend.line == 3 && injector.line == 4);
     assert!(rt; matches!(fail.event, Event::Fail(SiteId::A, 0)));

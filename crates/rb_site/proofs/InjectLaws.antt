@@ -21,13 +21,12 @@ use Rattle.rb_evbuf.specs.Buffer.{StandsFor}
 use Rattle.rb_evbuf.specs.declared.buffer.EventBuffer.{EventBuffer}
 use Rattle.rb_play_defs.specs.Step.{Progress, fed_by, takeable, worth_logging, written_bodies, with_taken}
 use Rattle.rb_play_defs.specs.Sound.{IsSound}
-use Rattle.rb_text_defs.specs.Script.{most_changes}
 use Rattle.rb_play_defs.proofs.Takes.{fed_from, written_is, written_more}
 use Rattle.rb_inject.specs.Body.{body_of_assembled}
 use Rattle.rb_inject.specs.Injector as inject
 use Rattle.rb_inject.specs.declared.injector.Injector.{Injector}
 use Rattle.rb_play_defs.proofs.Grows.{written_within}
-use Rattle.rb_site.specs.Site.{AreDeclared, changes_made}
+use Rattle.rb_site.specs.Site.{AreDeclared, changes_made, most_made}
 use Rattle.rb_site.specs.Inject.{IsInjectorAt}
 use Rattle.rb_site.proofs.BodyLaws.{body_is}
 use Rattle.rb_site.proofs.BodyFits.{at_least_one}
@@ -143,7 +142,7 @@ pub count_is : (shape : Shape) (run : Progress) → IsSound shape run → length
 count_is shape run sound = length-take-le run.written (completed_bodies shape run.journal) (written_within shape run sound)
 
 -- few bodies are written
-pub written_small : (shape : Shape) (run : Progress) → AreDeclared shape → IsSound shape run → changes_made shape run.journal ≤ most_changes → run.written ≤ most_changes
+pub written_small : (shape : Shape) (run : Progress) → AreDeclared shape → IsSound shape run → changes_made shape run.journal ≤ most_made → run.written ≤ most_made
 written_small shape run declared sound all =
     let upto = filter (λ epoch. nat_le epoch run.last) (closed_epochs run.journal) in
     let w = sound.written in

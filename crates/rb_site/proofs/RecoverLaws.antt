@@ -1,14 +1,12 @@
 -- A site whose injector stopped and begins again.
-use Rattle.std.proofs.Common.{◌≡◌, ℕ, ◌<◌, ◌≤◌, List, [], ◌++◌, length, refl, sym, ap, subst, ◌∙◌, arith}
-use Rattle.std.specs.Prelude.{All, true, false, is_some, Option, Some, None}
+use Rattle.std.proofs.Common.{◌≡◌, ℕ, ◌<◌, List, [], ◌++◌, length, refl, sym, ap, subst, ◌∙◌, arith}
+use Rattle.std.specs.Prelude.{true, false, is_some, Option, Some, None}
 use Rattle.std.specs.List.{AllByRecursion}
 use Rattle.std.specs.Option.{option_map_or}
-use Rattle.std.proofs.lemmas.List.{append-nil}
 use Rattle.rb_base.specs.declared.site.SiteId.{SiteId}
 use Rattle.rb_base.specs.declared.site.SiteId.TheVariants.{A}
 use Rattle.rb_base.specs.declared.schema.Mapped.{Mapped}
 use Rattle.rb_base.specs.declared.epoch.Epoch.{Epoch}
-use Rattle.rb_log_defs.specs.Fits.{CanBeMapped}
 use Rattle.rb_device_defs.specs.Image.{IsLogImage}
 use Rattle.rb_device_defs.proofs.ImageLaws.{whole_is_image}
 use Rattle.rb_commit.specs.Hand.{Hand}
@@ -19,7 +17,7 @@ use Rattle.rb_journal_defs.proofs.Counts.{epoch_length}
 use Rattle.rb_evbuf.specs.Buffer.{StandsFor}
 use Rattle.rb_evbuf.specs.declared.buffer.EventBuffer.{EventBuffer}
 use Rattle.rb_inject.specs.Injector as inject
-use Rattle.rb_inject.specs.Injector.{IsLogSetup, CanBeRecovered}
+use Rattle.rb_inject.specs.Injector.{CanBeRecovered}
 use Rattle.rb_inject.specs.declared.injector.Injector.{Injector}
 use Rattle.rb_play_defs.specs.Step.{Progress, failed_in, acknowledged_epoch, sent_by_owners, sent_to_injector, with_new_injector, injector_step, resend_step, written_bodies}
 use Rattle.rb_play_defs.proofs.Sounds.{sound_resend}
@@ -29,7 +27,6 @@ use Rattle.rb_site.specs.Nodes.{Buffered, HoldsNodes, CanCount, CanResend}
 use Rattle.rb_site.specs.Outbox.{HoldsSent, count_in, nodes_in}
 use Rattle.rb_site.specs.Site.{IsSite, SameSetup, buffered_by, loss_of, opened_of, limit_of, setup_of}
 use Rattle.rb_site.specs.Stepped.{IsStoppedSite, HasSameSetup, rest_of, site_of}
-use Rattle.rb_site.specs.declared.site.Loss.{Loss}
 use Rattle.rb_site.specs.declared.site.Site.{Site}
 use Rattle.rb_site.specs.declared.stepped.StoppedSite.{StoppedSite}
 use Rattle.rb_site.proofs.AgainLaws.{sent_resending, resend_senders}
@@ -131,7 +128,7 @@ pub log_can_be_recovered : (shape : Shape) (old : Site) (rest : StoppedSite) (ta
     CanBeRecovered (record { site = rest.id; limit = rest.limit; tables = tables }) (written_bodies shape run) seen
 log_can_be_recovered shape old rest tables seen run is named held room =
     let opened : opened_of old ≡ run.opened = ap (λ (hand : Hand). hand.opened) held.clock in
-    let ready = can_be_recovered shape old.injector seen run held.declared held.sound held.fits (omega (arith, held.made, held.few)) (omega (arith, opened, room)) held.log in
+    let ready = can_be_recovered shape old.injector seen run held.declared held.log.legal.few held.sound held.fits (omega (arith, held.made, held.few)) (omega (arith, opened, room)) held.log in
     subst (λ (r : StoppedSite). CanBeRecovered (record { site = r.id; limit = r.limit; tables = tables }) (written_bodies shape run) seen) (sym is)
     (subst (λ (id : SiteId). CanBeRecovered (record { site = id; limit = limit_of old; tables = tables }) (written_bodies shape run) seen) (held.declared.primary ∙ sym held.id) (record { image = ready.image; logged = ready.logged; few = ready.few }))
 

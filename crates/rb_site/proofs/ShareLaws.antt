@@ -12,7 +12,7 @@ use Rattle.rb_message_defs.specs.Message.{done_message, home_node}
 use Rattle.rb_message_defs.specs.Nodes.{Node, node_at, owner_in, numbers_in, covers, part_messages, messages_of, unacknowledged}
 use Rattle.rb_bucket.specs.declared.bucket.BucketBuffer.{BucketBuffer}
 use Rattle.rb_group.specs.Kept as group
-use Rattle.rb_group.specs.Kept.{Kept, HoldsNode, HoldsFrom, needed_in, parts_in, done_in, unacknowledged_in}
+use Rattle.rb_group.specs.Kept.{Kept, HoldsNode, needed_in, parts_in, done_in, unacknowledged_in}
 use Rattle.rb_group.specs.Group.{Keeps}
 use Rattle.rb_group.specs.declared.group.Group.{Group}
 use Rattle.rb_play_defs.proofs.Covering.{number_at}

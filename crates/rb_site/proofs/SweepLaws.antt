@@ -12,7 +12,7 @@ use Rattle.rb_message_defs.specs.Nodes.{owner_in, returns, with_returns}
 use Rattle.rb_group.specs.Kept as share
 use Rattle.rb_group.specs.Kept.{Kept, returns_in, covers_in}
 use Rattle.rb_group.specs.Group as called
-use Rattle.rb_group.specs.Group.{Keeps, IsNumberOf, AllCover}
+use Rattle.rb_group.specs.Group.{Keeps, AllCover}
 use Rattle.rb_group.specs.Nodes.{numbers_from}
 use Rattle.rb_group.specs.declared.group.Group.{Group}
 use Rattle.rb_group.proofs.Covering.{map_same}

@@ -132,7 +132,7 @@ part_left shape events its seen now run e rest body held front is nothing leaves
     go b some (inl image) = part_same shape events its seen now run held image
     go true some (inr image) =
         part_next shape events its seen now run e rest held front
-        (subst (λ (bodies : List EpochBody). IsLogImage shape.site (inject.limit_of its) bodies now) (ap (λ (one : EpochBody). written_bodies shape run ++ one ∷ []) is ∙ sym (bodies_with shape run e rest held.sound front (sym (ap has_something_to_log is) ∙ some))) image)
+        (subst (λ (bodies : List EpochBody). IsLogImage shape.site (inject.limit_of its) bodies now) (ap (λ (one : EpochBody). written_bodies shape run ++ one ∷ []) is ∙ sym (bodies_with shape run e rest held.sound front (sym (ap has_something_to_log is) ∙ some))) image.1)
     go false none (inr image) =
         part_same shape events its seen now run held
         (image_same shape.site (inject.limit_of its) (written_bodies shape run) seen now (nothing none) (whole_is_image shape.site (inject.limit_of its) (written_bodies shape run) seen held.log.held))
@@ -155,7 +155,7 @@ next_few shape events its seen run assembled held next =
 -- it is never too large
 pub next_small : (shape : Shape) (events : EventBuffer) (its : Injector) (seen : ℕ → List ℕ) (run : Progress) (assembled : Assembled) → IsInjectorAt shape events its seen run → IsNext shape run assembled → length (epoch_bytes (inject.body_for its assembled) 0) ≤ 2147483647
 next_small shape events its seen run assembled held next =
-    omega (arith, ap (λ (body : EpochBody). length (epoch_bytes body 0)) (body_made shape events its seen run next.epoch assembled held next.made), few_bytes shape next.epoch run.journal 0 held.declared held.fits, few_changes shape next.epoch run.journal, held.few)
+    omega (arith, ap (λ (body : EpochBody). length (epoch_bytes body 0)) (body_made shape events its seen run next.epoch assembled held next.made), few_bytes shape next.epoch run.journal 0 held.declared held.fits, few_changes shape next.epoch run.journal, held.few, held.log.legal.few)
 
 -- and there is a number for one more file
 pub next_file : (shape : Shape) (events : EventBuffer) (its : Injector) (seen : ℕ → List ℕ) (run : Progress) → IsInjectorAt shape events its seen run → inject.last_file_of its < 4294967294

@@ -4,8 +4,6 @@ use Rattle.std.specs.Prelude.{max, Option, Some, None, unwrap_or}
 use Rattle.std.proofs.Math.Nat.{max-eq_right}
 use Rattle.std.proofs.lemmas.List.Elements.{filter-append}
 use Rattle.rb_base.specs.declared.epoch.Epoch.{Epoch}
-use Rattle.rb_base.specs.declared.body.EpochBody.{EpochBody}
-use Rattle.rb_text_defs.specs.Script.{most_changes}
 use Rattle.rb_base.specs.declared.outcome.Outcome.TheVariants as outcomes
 use Rattle.rb_journal_defs.specs.Body.{Shape, body_of, has_something_to_log}
 use Rattle.rb_journal_defs.proofs.Order.{first_is_above}
@@ -19,13 +17,12 @@ use Rattle.rb_play_defs.proofs.Covering.{acknowledged_rises}
 use Rattle.rb_inject.specs.Injector as inject
 use Rattle.rb_inject.specs.declared.injector.Injector.{Injector}
 use Rattle.rb_evbuf.specs.declared.buffer.EventBuffer.{EventBuffer}
-use Rattle.rb_play_defs.specs.Part.{HoldsPart}
 use Rattle.rb_play_defs.specs.Sound.{IsSound}
 use Rattle.rb_play_defs.proofs.Covering.{IsCovered, covered_taken, acknowledged_below}
 use Rattle.rb_play_defs.proofs.Takes.{sound_taken}
 use Rattle.rb_site.specs.Inject.{IsInjectorAt, HasTaken}
 use Rattle.rb_site.specs.Nodes.{Buffered, HoldsNodes, with_acknowledged, CanAcknowledge}
-use Rattle.rb_site.specs.Site.{IsSite, buffered_by, setup_of}
+use Rattle.rb_site.specs.Site.{IsSite, buffered_by, setup_of, most_made}
 use Rattle.rb_site.specs.Stepped.{IsStoppedSite, site_of}
 use Rattle.rb_site.specs.declared.nodes.Nodes.{Nodes}
 use Rattle.rb_site.specs.declared.stepped.StoppedSite.{StoppedSite}
@@ -89,7 +86,7 @@ turn_rises shape run events new its next seen after count logged turning (e, res
     omega arith
 
 -- how many are logged is a small number
-pub turn_few : (shape : Shape) (run : Progress) (events : EventBuffer) (its : Injector) (seen : ℕ → List ℕ) (count : ℕ) → IsTurning shape run events its seen count → count ≤ most_changes
+pub turn_few : (shape : Shape) (run : Progress) (events : EventBuffer) (its : Injector) (seen : ℕ → List ℕ) (count : ℕ) → IsTurning shape run events its seen count → count ≤ most_made
 turn_few shape run events its seen count turning =
     let held = turning.held in
     omega (arith, turning.few, written_small shape turning.now held.declared held.sound held.few)

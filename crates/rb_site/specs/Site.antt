@@ -8,7 +8,7 @@ use Rattle.rb_base.specs.declared.schema.Mapped.{Mapped}
 use Rattle.rb_base.specs.declared.script.ClientOp.{ClientOp}
 use Rattle.rb_journal_defs.specs.Journal.{Journal, changes_of, closed_epochs, previous_closed, row_at}
 use Rattle.rb_journal_defs.specs.Body.{Shape, changes_in, mapped_tables}
-use Rattle.rb_text_defs.specs.Script.{column_bytes, most_changes, most_row_bytes}
+use Rattle.rb_text_defs.specs.Script.{column_bytes, most_row_bytes}
 use Rattle.rb_store.specs.Tables.{rows_in, tables_in}
 use Rattle.rb_evbuf.specs.Buffer as buffer
 use Rattle.rb_inject.specs.Injector as injector
@@ -35,6 +35,10 @@ pub record IsSmallTable (table : Mapped) : Type 0 where
   pub few : length table.columns ≤ 16
   pub schema : length table.schema ≡ 2
   pub name : length table.name ≤ 32
+
+-- how many changes the clients of a site may make: an epoch of as many of the largest rows can still be logged
+abbrev pub most_made : ℕ
+most_made = 1000000
 
 -- all changes of a site
 abbrev pub changes_made : Shape → Journal → ℕ
@@ -99,7 +103,7 @@ pub record IsSiteAt (acknowledged : ℕ) (shape : Shape) (site : Site) (seen : �
   pub events : buffer.StandsFor site.events (fed_by shape run)
   pub log : injector.StandsFor site.injector (log_setup shape site) (written_bodies shape run) seen
   pub made : site.made ≡ changes_made shape run.journal
-  pub few : site.made ≤ most_changes
+  pub few : site.made ≤ most_made
 
 -- its nodes were told of the last written one, as they are but for an injector's turn
 abbrev pub IsSite : Shape → Site → (seen : ℕ → List ℕ) → Progress → Type 0
@@ -160,7 +164,7 @@ uses_device events.Injector = true
 -- what a client's transaction needs: its operations fit the tables, and there is room for its changes and its number
 pub record TxFits (shape : Shape) (site : Site) (operations : List ClientOp) : Type 0 where
   pub fit : AllByRecursion (OperationFits shape.tables) operations
-  pub room : made_by site + length operations ≤ most_changes
+  pub room : made_by site + length operations ≤ most_made
   pub number : drawn_by site < 2 ^ 64 - 1
 
 -- what an event needs of a site

@@ -6,7 +6,6 @@ use Rattle.rb_base.specs.Faults.{Rose}
 use Rattle.rb_base.specs.declared.memory.NoMemory.{NoMemory}
 use Rattle.rb_journal_defs.specs.Journal.{previous_closed, row_at}
 use Rattle.rb_journal_defs.specs.Body.{Shape}
-use Rattle.rb_text_defs.specs.Script.{most_changes}
 use Rattle.rb_store.specs.Tables.{rows_in, tables_in}
 use Rattle.rb_evbuf.specs.declared.buffer.EventBuffer.{EventBuffer}
 use Rattle.rb_inject.specs.Injector as injector
@@ -14,9 +13,9 @@ use Rattle.rb_inject.specs.declared.injector.Injector.{Injector}
 use Rattle.rb_play_defs.specs.Step.{Progress, failed_in}
 use Rattle.rb_play_defs.specs.Sound.{IsSound}
 use Rattle.rb_play_defs.specs.Fitting.{JournalFits}
-use Rattle.rb_site.specs.Nodes.{HasNodes, HoldsNodes, OwnersCover}
+use Rattle.rb_site.specs.Nodes.{HoldsNodes, OwnersCover}
 use Rattle.rb_site.specs.Outbox.{HoldsSent, nodes_in}
-use Rattle.rb_site.specs.Site.{AreDeclared, buffered_by, changes_made, loss_of, groups_of, replicas_of, limit_of}
+use Rattle.rb_site.specs.Site.{AreDeclared, buffered_by, changes_made, most_made, loss_of, groups_of, replicas_of, limit_of}
 use Rattle.rb_site.specs.declared.site.Site.{Site}
 use Rattle.rb_site.specs.declared.stepped.Stepped.{Stepped}
 use Rattle.rb_site.specs.declared.stepped.Stepped.TheVariants as steps
@@ -38,15 +37,11 @@ pub record IsStoppedSite (shape : Shape) (site : StoppedSite) (run : Progress) :
   pub outbox : HoldsSent site.outbox run.sent run.delivered (failed_in run)
   pub senders : nodes_in site.outbox ≡ shape.buckets
   pub made : site.made ≡ changes_made shape run.journal
-  pub few : site.made ≤ most_changes
+  pub few : site.made ≤ most_made
 
 -- the limit of its binlog files
 abbrev pub limit_in : StoppedSite → ℕ
 limit_in site = site.limit
-
--- so many groups, of so many nodes each, and this limit
-abbrev pub HasSetup : (groups replicas limit : ℕ) → StoppedSite → Type 0
-HasSetup groups replicas limit site = HasNodes groups replicas site.nodes × (site.limit ≡ limit)
 
 -- a site with the groups and nodes of this rest, and the limit of this injector
 abbrev pub HasSameSetup : StoppedSite → Injector → Site → Type 0

@@ -69,7 +69,7 @@ pub struct Site {
 impl Site {
     ghost use Rattle.rb_site.specs.Site.{IsSite, AreDeclared, EventFits, TxFits, CanTake, opened_of, sent_by_site, shape_of, groups_of, replicas_of, limit_of, setup_of, SameSetup, buffered_by, needs_all_groups, uses_device};
     ghost use Rattle.rb_site.specs.Inject.{IsInjectorAt};
-    ghost use Rattle.rb_site.specs.Stepped.{IsStoppedSite, HasSetup, HasSameSetup, rest_of, site_of, IfOn, IfStopped, IsCut, HasStepCause};
+    ghost use Rattle.rb_site.specs.Stepped.{IsStoppedSite, HasSameSetup, rest_of, site_of, IfOn, IfStopped, IsCut, HasStepCause};
 
     /// Site A with these tables, so many node groups of so many nodes each, and binlog files of this limit, on an empty device: the
     /// injector gets a log without an epoch. `NotEmpty` names the lowest file that is not empty, and leaves the device as it was.
@@ -111,7 +111,7 @@ impl Site {
             IsSite shape site (D.seen disk.new) (site_step shape run event.now).run × (outcome ≡ (site_step shape run event.now).outcome)) }
         ensures nodes { IfOn result (λ site outcome. SameSetup self site) }
         ensures stays { IfStopped result (λ stopped. (shape : Shape) (run : Progress) → IsSite shape self (D.seen disk.old) run → IsStoppedSite shape stopped run) }
-        ensures kept { IfStopped result (λ stopped. HasSetup (groups_of self) (replicas_of self) (limit_of self) stopped) }
+        ensures rest { IfStopped result (λ stopped. stopped ≡ rest_of self) }
         ensures part { IsCut result → (shape : Shape) (run : Progress) → IsSite shape self (D.seen disk.old) run →
             HoldsPart (limit_of self) run.written (written_bodies shape (site_step shape run event.now).run) (D.seen disk.new) }
         ensures cause { HasStepCause (D.fault_count disk.old) (D.fault_count disk.new) result }

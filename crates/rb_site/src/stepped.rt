@@ -26,7 +26,8 @@ pub enum Stepped {
     NoMemory,
 }
 
-/// A site whose injector and event buffer are gone. Its nodes still have all messages that are not acknowledged.
+/// A site whose injector and event buffer are gone. Its nodes have what they had: unless a group is lost, all messages that are not
+/// acknowledged.
 #[derive(Drop)]
 pub struct StoppedSite {
     pub(crate) alloc: Global,

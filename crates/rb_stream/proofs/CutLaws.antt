@@ -1,13 +1,13 @@
 -- How far a log is seen, one event at a time.
 use Rattle.std.proofs.Common.{◌≡◌, ℕ, suc, ◌+◌, ◌<◌, ◌≤◌, Bool, true, false, List, [], ◌∷◌, ◌++◌, length, take, drop, Some, None, refl, ap, ◌∙◌, arith, length-append, length-drop}
-use Rattle.std.specs.Prelude.{nat_le, nat_lt, if◌then◌else◌}
+use Rattle.std.specs.Prelude.{nat_le, if◌then◌else◌}
 use Rattle.std.proofs.lemmas.Bool.{le-leb, lt-leb, lt-ltb, le-ltb}
 use Rattle.std.proofs.lemmas.List.{take-append-le, drop-append-le}
 use Rattle.rb_base.specs.declared.faults.Field.{Field}
 use Rattle.rb_base.specs.declared.faults.Field.TheVariants.{EventSize, Status}
 use Rattle.rb_read_defs.specs.Reading.{Reading, Read, Short, Wrong}
 use Rattle.rb_read_defs.specs.Events.{header}
-use Rattle.rb_read_defs.specs.Stream.{Cut, Known, Seen, cut_by, cut_from, cuts, header_fault, content_in, has_statuses, judge, judge_payload, seen_by, seen_from}
+use Rattle.rb_read_defs.specs.Stream.{Cut, Known, cut_by, cut_from, cuts, header_fault, content_in, has_statuses, judge, judge_payload, seen_by, seen_from}
 use Rattle.rb_read_defs.specs.declared.answers.Content.{Content}
 use Rattle.rb_read_defs.specs.declared.answers.Header.{Header}
 use Rattle.rb_read_defs.proofs.EventSeen.{same_cuts}

@@ -1,6 +1,6 @@
 -- A decoder goes from event to event.
-use Rattle.std.proofs.Common.{◌≡◌, ◌≢◌, ℕ, zero, suc, ◌+◌, ◌<◌, ◌≤◌, Bool, true, false, List, [], ◌∷◌, ◌++◌, length, take, drop, Option, Some, None, Result, Ok, Err, refl, sym, ap, subst, ◌∙◌, arith, length-append, length-drop, append_assoc, take_all, ◌-◌}
-use Rattle.std.specs.Prelude.{OnOk, ◌==◌, nat_lt, not, if◌then◌else◌, is_some}
+use Rattle.std.proofs.Common.{◌≡◌, ◌≢◌, ℕ, ◌+◌, ◌<◌, ◌≤◌, Bool, true, false, List, [], ◌∷◌, ◌++◌, length, take, drop, Option, Some, None, Result, Ok, Err, refl, sym, ap, subst, ◌∙◌, arith, length-append, length-drop, append_assoc, take_all, ◌-◌}
+use Rattle.std.specs.Prelude.{OnOk, ◌==◌, not, if◌then◌else◌, is_some}
 use Rattle.std.specs.Option.{option_map, option_map_or}
 use Rattle.std.proofs.lemmas.Bool.{lt-ltb, le-ltb, eqb-true}
 use Rattle.std.proofs.lemmas.List.{append-nil, take-append-le, drop-append-le}
@@ -11,7 +11,7 @@ use Rattle.rb_base.specs.declared.faults.Field.{Field}
 use Rattle.rb_base.specs.declared.faults.Field.TheVariants as fields
 use Rattle.rb_read_defs.specs.Reading.{Reading, Read, Short, Wrong, answer_of}
 use Rattle.rb_read_defs.specs.Events.{header}
-use Rattle.rb_read_defs.specs.Stream.{Known, magic, cuts, open_epoch, is_open, is_outside, header_fault, content_in, has_statuses, seen_from, seen_of, body_read, step_of, steps_of, settled_at}
+use Rattle.rb_read_defs.specs.Stream.{Known, magic, cuts, open_epoch, is_open, is_outside, header_fault, content_in, seen_from, seen_of, body_read, step_of, steps_of}
 use Rattle.rb_read_defs.specs.declared.answers.Content.{Content}
 use Rattle.rb_read_defs.specs.declared.answers.Content.TheVariants as contents
 use Rattle.rb_read_defs.specs.declared.answers.Header.{Header}

@@ -7,7 +7,7 @@ use Rattle.std.proofs.lemmas.List.{take-append-drop, map-append}
 use Rattle.rb_read_defs.specs.Stream.{is_own, own_rows, other_rows, is_single}
 use Rattle.rb_read_defs.specs.declared.answers.StatusRow.{StatusRow}
 use Rattle.rb_stream.specs.declared.told.Told.{Told}
-use Rattle.rb_stream.specs.Told.{Tells, TellsAll, told_with}
+use Rattle.rb_stream.specs.Told.{Tells, told_with}
 
 -- the rows that pass a test
 abbrev pub rows_that : (ℕ × StatusRow → Bool) → List (ℕ × StatusRow) → List StatusRow

@@ -1,5 +1,5 @@
 -- The apply-status rows that an epoch has so far.
-use Rattle.std.specs.Prelude.{◌≡◌, ℕ, false, if◌then◌else◌, List, [], ◌∷◌, Option, Some, None, is_some, option_to_list}
+use Rattle.std.specs.Prelude.{◌≡◌, ℕ, false, if◌then◌else◌, List, Option, Some, None, is_some, option_to_list}
 use Rattle.rb_read_defs.specs.Stream.{is_own, own_rows, other_rows, is_single}
 use Rattle.rb_read_defs.specs.declared.answers.StatusRow.{StatusRow}
 use Rattle.rb_stream.specs.declared.told.Told.{Told}

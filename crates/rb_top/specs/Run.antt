@@ -1,5 +1,5 @@
 -- What a run needs and leaves.
-use Rattle.std.specs.Prelude.{◌≡◌, ℕ, List, [], ◌∷◌, ◌++◌}
+use Rattle.std.specs.Prelude.{ℕ, List, [], ◌∷◌, ◌++◌}
 use Rattle.std.specs.List.{flat_map}
 use Rattle.rb_base.specs.declared.script.Event.{Event}
 use Rattle.rb_base.specs.declared.script.Event.TheVariants as events

@@ -27,11 +27,11 @@ pub enum Status {
         position: u64,
         field: Field,
     },
-    /// The source failed. Of a script nothing was written, of a log the text of what was read before.
+    /// The source failed. Of a script nothing was written, of a log a front of the text of what was read before.
     ReadFault,
     /// The sink failed. A front of the text is written; of a script the log is written, and a front of the report.
     WriteFault,
-    /// The log device of this site failed. Its log can be opened again, with the first so many epochs; nothing was printed.
+    /// The log device of this site failed. It has an image of the log of the first so many epochs; nothing was printed.
     DiskFault {
         site: SiteId,
     },

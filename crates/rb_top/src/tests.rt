@@ -15,6 +15,7 @@ mod runs;
 mod sips;
 mod spelled;
 mod texts;
+mod wider;
 
 /// A script of two inserts in one epoch.
 const WORKED: &[u8] = b"table t num\ntx A ins t 5 7\ntx A ins t 6 8\nepoch A\nlog A\n";

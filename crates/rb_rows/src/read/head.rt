@@ -14,7 +14,6 @@ const TRANSID: u8 = 0x52;
 #[tactic(auto, unfolding(rb_read_defs::specs::Rows::rows_head))]
 pub(crate) fn read_head(fields: &mut Fields, kind: Kind, table: &Mapped) -> Result<u64, CodecFault>
     requires some { 1 ≤ length table.now.columns }
-    requires most { length table.now.columns ≤ 64 }
     ensures gives { Gives (λ transid. transid) result fields.new.at (rows_head kind table.now fields.old.bytes.now fields.old.at) }
     ensures bytes { fields.new.bytes ≡ fields.old.bytes }
 {
@@ -51,7 +50,6 @@ fn read_presents<'a>(
     columns: usize,
 ) -> Result<&'a [u8], CodecFault>
     requires some { 1 ≤ columns }
-    requires most { columns ≤ 64 }
     ensures gives { Gives (λ bitmap. bitmap.now) result fields.new.at (presents kind columns fields.old.bytes.now fields.old.at) }
     ensures bytes { fields.new.bytes ≡ fields.old.bytes }
 {
@@ -67,12 +65,11 @@ fn read_presents<'a>(
 /// The present bitmap of an image of so many columns: all are there.
 fn read_present<'a>(fields: &mut Fields<'a>, columns: usize) -> Result<&'a [u8], CodecFault>
     requires some { 1 ≤ columns }
-    requires most { columns ≤ 64 }
     ensures gives { Gives (λ bitmap. bitmap.now) result fields.new.at (present columns fields.old.bytes.now fields.old.at) }
     ensures bytes { fields.new.bytes ≡ fields.old.bytes }
 {
     let at = fields.at();
-    let bitmap = fields.some_bytes((columns + 7) / 8)?;
+    let bitmap = fields.some_bytes(columns.div_ceil(8))?;
     check(all_set(columns, bitmap), at, Field::Present)?;
     Ok(bitmap)
 }

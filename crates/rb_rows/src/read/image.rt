@@ -18,14 +18,13 @@ pub(crate) fn read_image(
     key: Option<u64>,
 ) -> Result<Row, CodecFault>
     requires some { 1 ≤ length columns.now }
-    requires most { length columns.now ≤ 64 }
     ensures gives { result ≢ Err CodecOutOfMemory → Gives (λ row. row) result fields.new.at (image columns.now key fields.old.bytes.now fields.old.at) }
     ensures bytes { fields.new.bytes ≡ fields.old.bytes }
     ensures later { OnOk result (fields.old.at < fields.new.at) }
     ensures long { IfOk result (λ row. IsFirstLong columns.now row.values) }
 {
     let at = fields.at();
-    let nulls = fields.some_bytes((columns.len() + 7) / 8)?;
+    let nulls = fields.some_bytes(columns.len().div_ceil(8))?;
     check(all_clear(columns.len(), nulls), at, Field::Null)?;
     let values = read_values(alloc, fields, columns, key)?;
     Ok(Row { values })
@@ -39,7 +38,6 @@ pub(crate) fn read_images(
     columns: &[Column],
 ) -> Result<(Option<Row>, Option<Row>), CodecFault>
     requires some { 1 ≤ length columns.now }
-    requires most { length columns.now ≤ 64 }
     ensures gives { result ≢ Err CodecOutOfMemory → Gives (λ both. both) result fields.new.at (images kind columns.now fields.old.bytes.now fields.old.at) }
     ensures bytes { fields.new.bytes ≡ fields.old.bytes }
     ensures later { OnOk result (fields.old.at < fields.new.at) }

@@ -30,7 +30,6 @@ pub fn read_rows(
     table: &Mapped,
 ) -> Result<Changes, CodecFault>
     requires some { 1 ≤ length table.now.columns }
-    requires most { length table.now.columns ≤ 64 }
     ensures { result ≢ Err CodecOutOfMemory → result ≡ answer_of (changes kind server table.now payload.now 0) }
 {
     let mut fields = Fields::new(payload);
@@ -57,7 +56,6 @@ fn read_changes(
     transid: u64,
 ) -> Result<Changes, CodecFault>
     requires some { 1 ≤ length table.now.columns }
-    requires most { length table.now.columns ≤ 64 }
     requires end { end ≡ length fields.old.bytes.now }
     ensures gives { result ≢ Err CodecOutOfMemory → Gives (λ changes. changes) result fields.new.at (many (change_in kind server table.now transid) fields.old.bytes.now fields.old.at) }
 {
@@ -79,7 +77,6 @@ fn read_change(
     transid: u64,
 ) -> Result<Change, CodecFault>
     requires some { 1 ≤ length table.now.columns }
-    requires most { length table.now.columns ≤ 64 }
     ensures gives { result ≢ Err CodecOutOfMemory → Gives (λ change. change) result fields.new.at (change_in kind server table.now transid fields.old.bytes.now fields.old.at) }
     ensures bytes { fields.new.bytes ≡ fields.old.bytes }
     ensures later { OnOk result (fields.old.at < fields.new.at) }

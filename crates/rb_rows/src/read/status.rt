@@ -22,7 +22,6 @@ use std::alloc::Global;
 /// no room.
 pub fn read_status(alloc: Global, payload: &[u8], table: &Mapped) -> Result<StatusRows, CodecFault>
     requires server { get_or table.now.columns 0 Num ≡ Long }
-    requires most { length table.now.columns ≤ 64 }
     ensures { result ≢ Err CodecOutOfMemory → result ≡ answer_of (statuses table.now payload.now 0) }
 {
     let mut fields = Fields::new(payload);
@@ -38,7 +37,6 @@ fn read_status_rows(
     table: &Mapped,
 ) -> Result<StatusRows, CodecFault>
     requires server { get_or table.now.columns 0 Num ≡ Long }
-    requires most { length table.now.columns ≤ 64 }
     requires end { end ≡ length fields.old.bytes.now }
     ensures gives { result ≢ Err CodecOutOfMemory → Gives (λ rows. rows) result fields.new.at (many (status table.now) fields.old.bytes.now fields.old.at) }
 {
@@ -57,7 +55,6 @@ fn read_status_row(
     table: &Mapped,
 ) -> Result<StatusRow, CodecFault>
     requires server { get_or table.now.columns 0 Num ≡ Long }
-    requires most { length table.now.columns ≤ 64 }
     ensures gives { result ≢ Err CodecOutOfMemory → Gives (λ row. row) result fields.new.at (status table.now fields.old.bytes.now fields.old.at) }
     ensures bytes { fields.new.bytes ≡ fields.old.bytes }
     ensures later { OnOk result (fields.old.at < fields.new.at) }

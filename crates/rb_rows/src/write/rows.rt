@@ -21,7 +21,6 @@ pub fn write_rows(
     requires one { length changes.now ≡ 1 }
     requires few { length table.now.columns ≤ 64 }
     requires fits { All (λ change. Fits table.now.columns change) changes.now }
-    requires named { All (λ change. change.table ≡ table.now.id) changes.now }
     ensures ok { OnOk result (out.new.items ≡ out.old.items ++ rows_written table.now changes.now last) }
     ensures err { OnErr result (out.new.items ≡ out.old.items) }
 {

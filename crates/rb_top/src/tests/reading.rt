@@ -63,12 +63,17 @@ fn an_event_of_no_known_type_is_skipped(rt: HostRuntime) -> Result<(), Fail> {
     Ok(())
 }
 
+// The format description ends at 115; while it is not whole, all that is there is left.
 #[test]
 fn each_front_of_a_log_is_sound(rt: HostRuntime) -> Result<(), Fail> {
     let log = file_of(rt.alloc(), &TWO_ROWS)?;
-    for length in 0..=log.len() {
+    for length in 0..log.len() {
+        let rest = if length < 115 { length } else { length - 115 };
+        let mut text = Vec::from_slice(rt.alloc(), b"ndb binlog read\nend rest=")?;
+        text.extend_from_slice(rest.to_string(rt.alloc())?.as_bytes())?;
+        text.push(b'\n')?;
         let left = read(&rt, rt.alloc(), &log[..length])?;
-        assert_eq!(rt; left.status, Status::Done, "at {length}");
+        check(&rt, &left, Status::Done, &text);
     }
     Ok(())
 }
@@ -117,19 +122,22 @@ fn an_epoch_before_a_bad_event_is_told(rt: HostRuntime) -> Result<(), Fail> {
     Ok(())
 }
 
-// However few bytes a call of the source gives.
-#[test]
-fn a_log_is_read_in_drips(rt: HostRuntime) -> Result<(), Fail> {
-    let alloc = rt.alloc();
+/// The log has this text, however few bytes a call of the source gives.
+pub(super) fn check_in_drips<R: Threads + Sync + Abort>(
+    rt: &R,
+    alloc: Global,
+    log: &[u8],
+    text: &[u8],
+) -> Result<(), Fail> {
     let words = words_of(alloc, &[b"read".as_slice()])?;
-    for most in [1, 3] {
-        let log = Bytes::from_vec(file_of(alloc, &TWO_ROWS)?);
+    for most in [1, 3, log.len()] {
+        let bytes = Bytes::from_vec(Vec::from_slice(alloc, log)?);
         let mut sink = SteadySink::new(alloc);
-        let mut source = Drips::new(SteadySource::new(log), most);
+        let mut source = Drips::new(SteadySource::new(bytes), most);
         let mut disk_a = MemoryDisk::new(alloc);
         let mut disk_b = MemoryDisk::new(alloc);
         let status = top(
-            &rt,
+            rt,
             alloc,
             &words,
             &mut source,
@@ -138,9 +146,15 @@ fn a_log_is_read_in_drips(rt: HostRuntime) -> Result<(), Fail> {
             &mut disk_b,
         );
         assert_eq!(rt; status, Status::Done, "at {most}");
-        assert_eq!(rt; sink.bytes(), WHOLE, "at {most}");
+        assert_eq!(rt; sink.bytes(), text, "at {most}");
     }
     Ok(())
+}
+
+#[test]
+fn a_log_is_read_in_drips(rt: HostRuntime) -> Result<(), Fail> {
+    let log = file_of(rt.alloc(), &TWO_ROWS)?;
+    check_in_drips(&rt, rt.alloc(), &log, WHOLE)
 }
 
 // The call with the one word `read` over objects of which these calls fail: its status, and what the sink has.

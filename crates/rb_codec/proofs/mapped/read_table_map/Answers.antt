@@ -1,4 +1,4 @@
-use Rattle.std.proofs.Common.{◌∙◌, sym, ap, true, nat_le, ◌&&◌, ◌≡◌, ℕ, List, subst}
+use Rattle.std.proofs.Common.{◌∙◌, sym, ap, nat_le, ◌&&◌, ℕ, List}
 use Rattle.rb_read_defs.specs.Events.{are_types}
 use Rattle.rb_codec.proofs.ColumnLaws.{has_columns}
 use Rattle.rb_codec.proofs.mapped.read_table_map.Goals as goal

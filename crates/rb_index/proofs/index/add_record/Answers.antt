@@ -1,8 +1,9 @@
 use Rattle.std.proofs.Common.{inl, inr, ◌∙◌, ◌≡◌, ◌-◌, ℕ, ap, length, arith}
 use Rattle.std.specs.Prelude.{List, ◌++◌, ◌∷◌, []}
+use Rattle.rb_base.proofs.Results.{at_an_error}
 use Rattle.rb_log_defs.specs.Index.{index_record}
 use Rattle.rb_device_defs.specs.Index.{open_records}
-use Rattle.rb_index.proofs.ImageLaws.{at_an_error, by_fault, whole_image, whole_size, closed_image, record_torn, record_written, gate_torn, gate_opened}
+use Rattle.rb_index.proofs.ImageLaws.{by_fault, whole_image, whole_size, closed_image, record_torn, record_written, gate_torn, gate_opened}
 use Rattle.rb_index.proofs.index.add_record.Goals as goal
 
 pub returns-in_err-write_at-clause-kept : goal.returns-in_err-write_at-clause-kept

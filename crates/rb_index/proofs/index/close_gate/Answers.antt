@@ -1,6 +1,7 @@
 use Rattle.std.proofs.Common.{◌∙◌, subst, sym}
+use Rattle.rb_base.proofs.Results.{at_an_error}
 use Rattle.rb_device_defs.specs.Index.{IsIndexImage}
-use Rattle.rb_index.proofs.ImageLaws.{at_an_error, by_fault, close_torn, gate_closed}
+use Rattle.rb_index.proofs.ImageLaws.{by_fault, close_torn, gate_closed}
 use Rattle.rb_index.proofs.index.close_gate.Goals as goal
 
 pub returns-in_err-write_at-clause-kept : goal.returns-in_err-write_at-clause-kept

@@ -1,8 +1,9 @@
 use Rattle.std.proofs.Common.{◌∙◌, arith}
+use Rattle.rb_base.proofs.Results.{at_an_error, weaker_ok}
 use Rattle.rb_device_defs.proofs.RowLaws.{unrotated}
 use Rattle.rb_log_defs.specs.File.{binlog_of}
-use Rattle.rb_inject.proofs.LogLaws.{at_an_error, weaker_ok}
 use Rattle.rb_inject.proofs.OpenLaws.{opens, opened, still_there, anew}
+use Rattle.rb_binlog.proofs.RotateLaws.{rotation_small}
 use Rattle.rb_inject.proofs.injector.open_files.Goals as goal
 
 pub returns-in_default-clause-opened : goal.returns-in_default-clause-opened
@@ -37,7 +38,8 @@ rotate_if-requires-clause-few g c =
 pub rotate_if-requires-clause-fits : goal.rotate_if-requires-clause-fits
 rotate_if-requires-clause-fits g c =
     let log = opens c.args.site c.args.limit c.args.last c.in-Some.row c.requires.there.0 _ c.requires.limit c.in-Some.is c.requires.there.1 in
-    omega (arith, log.fits, log.position, (c.in_ok-files.ensures.cut (unrotated c.args.site (binlog_of c.args.site c.args.limit log.earlier) log.body) log.number log.position log.front).length_is)
+    let files = c.in_ok-files.ensures.cut (unrotated c.args.site (binlog_of c.args.site c.args.limit log.earlier) log.body) log.number log.position log.front in
+    λ reached. omega (arith, log.fits, log.position, files.length_is, rotation_small c.in_ok-files.files (omega (arith, log.few, log.number, files.number_is)))
 
 pub returns-in_err-rotate_if-clause-kept : goal.returns-in_err-rotate_if-clause-kept
 returns-in_err-rotate_if-clause-kept g c = at_an_error c.from_residual-in_err-rotate_if.result (λ bodies held.

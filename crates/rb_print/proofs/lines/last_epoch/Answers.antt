@@ -1,8 +1,8 @@
 use Rattle.std.proofs.Common.{ap, ◌∙◌}
 use Rattle.std.specs.Prelude.{Option}
 use Rattle.std.specs.Option.{option_map_or}
+use Rattle.rb_base.proofs.Lists.{last_got}
 use Rattle.rb_base.specs.declared.body.IndexRow.{IndexRow}
-use Rattle.rb_print.proofs.TextLaws.{last_got}
 use Rattle.rb_print.proofs.lines.last_epoch.Goals as goal
 
 pub returns-in-Some : goal.returns-in-Some

@@ -2,12 +2,10 @@ use Rattle.std.proofs.Common.{◌∙◌, ◌++◌, ◌∷◌, [], List, ℕ, sym
 use Rattle.rb_play_defs.specs.Part.{HoldsPart}
 use Rattle.rb_play_defs.specs.Step.{written_bodies}
 use Rattle.std.proofs.lemmas.List.{nil_from_length}
-use Rattle.rb_base.specs.declared.schema.Schema.{Schema}
 use Rattle.rb_text_defs.specs.declared.script.Script.{Script}
 use Rattle.rb_text_defs.specs.declared.script.LinedEvent.{LinedEvent}
 use Rattle.rb_site.proofs.BeginLaws.{on_err}
 use Rattle.rb_site.proofs.InjectLaws.{err_anyway}
-use Rattle.rb_site.specs.Site.{AreDeclared, shape_of as site_shape}
 use Rattle.rb_play_defs.specs.Play.{shape_of, play_of, event_step}
 use Rattle.rb_top.proofs.LegalLaws.{declared}
 use Rattle.rb_top.proofs.Running.{part_of_any, played_whole, room_for, starts, stopped_in, stopped_behind, stands_more, text_more, told_nothing, whole_more}

@@ -1,4 +1,4 @@
-use Rattle.std.proofs.Common.{◌∙◌, ap}
+use Rattle.std.proofs.Common.{◌∙◌}
 use Rattle.rb_top.proofs.Running.{log_put}
 use Rattle.rb_top.proofs.run.put_log.Goals as goal
 

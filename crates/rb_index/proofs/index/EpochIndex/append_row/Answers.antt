@@ -1,8 +1,9 @@
 use Rattle.std.proofs.Common.{◌≡◌, ◌≤◌, List, [], ◌∷◌, ◌++◌, sym, ap, subst, arith, ◌∙◌, inl}
+use Rattle.rb_base.proofs.Results.{at_an_error}
 use Rattle.rb_base.specs.declared.body.IndexRow.{IndexRow}
 use Rattle.rb_device_defs.specs.Index.{NeverFall, last_epoch_of}
 use Rattle.rb_index.proofs.SearchLaws.{never_fall_more}
-use Rattle.rb_index.proofs.ImageLaws.{at_an_error, whole_image, whole_size}
+use Rattle.rb_index.proofs.ImageLaws.{whole_image, whole_size}
 use Rattle.rb_index.proofs.index.EpochIndex.append_row.Goals as goal
 
 pub returns-in_err-reserve-clause-kept : goal.returns-in_err-reserve-clause-kept

@@ -1,6 +1,7 @@
 use Rattle.std.proofs.Common.{◌≡◌, ◌*◌, length, arith, subst, sym}
+use Rattle.rb_base.proofs.Results.{at_an_error}
 use Rattle.rb_device_defs.specs.Index.{IsIndexImage, open_records}
-use Rattle.rb_index.proofs.ImageLaws.{at_an_error, length_open}
+use Rattle.rb_index.proofs.ImageLaws.{length_open}
 use Rattle.rb_index.proofs.index.EpochIndex.recover.Goals as goal
 
 pub returns-in_err-cut_behind-clause-kept : goal.returns-in_err-cut_behind-clause-kept

@@ -1,7 +1,8 @@
 use Rattle.std.proofs.Common.{ℕ, List, [], refl, sym, subst, ◌∙◌, arith}
+use Rattle.rb_base.proofs.Results.{at_an_error}
 use Rattle.rb_device_defs.specs.Index.{IsIndexImage}
 use Rattle.rb_device_defs.proofs.ImageLaws.{index_is_image, image_of_none}
-use Rattle.rb_inject.proofs.LogLaws.{begun, at_an_error}
+use Rattle.rb_inject.proofs.LogLaws.{begun}
 use Rattle.rb_inject.proofs.injector.Injector.create.Goals as goal
 
 pub returns-in_err-index-clause-stopped : goal.returns-in_err-index-clause-stopped

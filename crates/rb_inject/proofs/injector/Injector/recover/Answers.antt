@@ -1,14 +1,14 @@
 use Rattle.std.proofs.Common.{ℕ, List, refl, sym, ap, subst, ◌∙◌}
 use Rattle.std.specs.Prelude.{Option, None}
 use Rattle.std.specs.List.{last_or}
+use Rattle.rb_base.proofs.Lists.{last_got}
+use Rattle.rb_base.proofs.Results.{at_an_error}
 use Rattle.rb_base.specs.declared.body.IndexRow.{IndexRow}
 use Rattle.rb_log_defs.specs.File.{binlog_files, index_rows}
 use Rattle.rb_device_defs.specs.Index.{IsIndexImage}
 use Rattle.rb_device_defs.specs.Image.{HoldsUpTo}
-use Rattle.rb_device_defs.proofs.FrontLaws.{last_got}
 use Rattle.rb_device_defs.proofs.RowLaws.{rows_never_fall}
 use Rattle.rb_device_defs.proofs.ImageLaws.{index_is_image}
-use Rattle.rb_inject.proofs.LogLaws.{at_an_error}
 use Rattle.rb_inject.proofs.OpenLaws.{rows_fit, same_up_to, holds_to}
 use Rattle.rb_inject.proofs.injector.Injector.recover.Goals as goal
 

@@ -1,11 +1,12 @@
 use Rattle.std.proofs.Common.{List, length, sym, ap, subst, ◌∙◌, arith, inl}
+use Rattle.rb_base.proofs.Results.{at_an_error}
 use Rattle.rb_base.specs.declared.body.EpochBody.{EpochBody}
 use Rattle.rb_device_defs.proofs.ImageLaws.{whole_is_image}
 use Rattle.rb_journal_defs.specs.Body.{is_named_in}
 use Rattle.rb_journal_defs.proofs.Counts.{filter_length}
 use Rattle.rb_inject.specs.Body.{logged_of, body_of_assembled}
 use Rattle.rb_inject.specs.Injector.{LeavesImage, StandsFor, bodies_with}
-use Rattle.rb_inject.proofs.LogLaws.{body_is, with_logged, at_an_error}
+use Rattle.rb_inject.proofs.LogLaws.{body_is, with_logged}
 use Rattle.rb_inject.proofs.injector.Injector.take.Goals as goal
 
 pub returns-in_err-body-clause-stopped : goal.returns-in_err-body-clause-stopped

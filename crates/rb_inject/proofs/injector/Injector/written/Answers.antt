@@ -2,8 +2,8 @@ use Rattle.std.proofs.Common.{ap, ◌∙◌}
 use Rattle.std.specs.Prelude.{Option, None}
 use Rattle.std.specs.List.{last_or}
 use Rattle.std.specs.Option.{option_map_or}
+use Rattle.rb_base.proofs.Lists.{last_got}
 use Rattle.rb_base.specs.declared.body.IndexRow.{IndexRow}
-use Rattle.rb_device_defs.proofs.FrontLaws.{last_got}
 use Rattle.rb_inject.proofs.injector.Injector.written.Goals as goal
 
 pub returns-in-Some : goal.returns-in-Some

@@ -38,7 +38,7 @@ returns-in_default g c = record {
   stepped = on_if_ok c.step_inside.result c.step_of.result _ c.step_of.ensures (if_ok_more c.step_inside.result _ _ c.step_inside.ensures.stepped (λ pair meets shape run held fits. meets shape (g.D.LogDisk.seen c.args.disk.now) run held fits));
   nodes = on_if_ok c.step_inside.result c.step_of.result _ c.step_of.ensures c.step_inside.ensures.nodes;
   stays = never_stopped c.step_inside.result c.step_of.result _ c.step_of.ensures;
-  kept = never_stopped c.step_inside.result c.step_of.result _ c.step_of.ensures;
+  rest = never_stopped c.step_inside.result c.step_of.result _ c.step_of.ensures;
   part = λ cut shape run held. part_unmoved shape c.args.self (g.D.LogDisk.seen c.args.disk.now) run c.args.event.now held;
   cause = record { later = omega arith; failed = λ stopped. absurd (no_fault c.step_inside.result c.step_of.result c.step_of.ensures stopped) };
 }

@@ -1,7 +1,6 @@
-use Rattle.std.proofs.Common.{[], ◌∙◌, sym, refl, arith, subst, Bool}
+use Rattle.std.proofs.Common.{[], sym, refl, arith}
 use Rattle.std.proofs.lemmas.List.{append-nil}
 use Rattle.rb_read_defs.specs.Stream.{seen_of}
-use Rattle.rb_stream.specs.Next.{GoesOn}
 use Rattle.rb_stream.proofs.NextLaws.{begins, none_at_first}
 use Rattle.rb_stream.proofs.decoder.Decoder.new.Goals as goal
 

@@ -1,4 +1,4 @@
-use Rattle.std.proofs.Common.{◌∙◌, ◌≡◌, sym, ap, subst, ℕ, List, length, arith, Ok, Err}
+use Rattle.std.proofs.Common.{◌∙◌, sym, ap, ℕ, List, length, arith, Err}
 use Rattle.rb_read_defs.specs.Reading.{answer_of}
 use Rattle.rb_read_defs.specs.Events.{header}
 use Rattle.rb_stream.proofs.CutLaws.{no_header, short_header, wrong_header, misplaced}

@@ -1,10 +1,10 @@
-use Rattle.std.proofs.Common.{◌≡◌, ◌∙◌, ◌++◌, sym, subst, Option, Some, None, Ok}
+use Rattle.std.proofs.Common.{◌∙◌, ◌++◌, subst, Option, None, Ok}
 use Rattle.std.proofs.lemmas.Result.{err_from_is_err_and}
 use Rattle.rb_read_defs.specs.declared.answers.Content.{Content}
 use Rattle.rb_read_defs.specs.declared.answers.Header.{Header}
 use Rattle.rb_read_defs.specs.declared.answers.Step.{Step}
 use Rattle.rb_stream.specs.Next.{Meets, GoesPast}
-use Rattle.rb_stream.proofs.NextLaws.{HasPassed, meets_fault, refuses, gives, passes_quiet, ends_quiet, none_of}
+use Rattle.rb_stream.proofs.NextLaws.{meets_fault, refuses, gives, passes_quiet, ends_quiet, none_of}
 use Rattle.rb_stream.proofs.decoder.Decoder.pass_events.Goals as goal
 
 pub returns-in_err-header-clause-goes : goal.returns-in_err-header-clause-goes

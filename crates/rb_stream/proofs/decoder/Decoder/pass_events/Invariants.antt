@@ -1,4 +1,4 @@
-use Rattle.std.proofs.Common.{ℕ, length}
+use Rattle.std.proofs.Common.{length}
 use Rattle.rb_stream.proofs.NextLaws.{HasPassed}
 use Rattle.rb_stream.proofs.decoder.Decoder.pass_events.Given as goal
 

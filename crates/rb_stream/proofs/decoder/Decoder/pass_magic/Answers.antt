@@ -1,7 +1,7 @@
-use Rattle.std.proofs.Common.{[], ◌∷◌, ◌∙◌, ◌≡◌, ◌+◌, ◌++◌, ℕ, List, sym, ap, subst, refl, not, Bool, true, false, length, take, drop, arith, Some, length-drop}
+use Rattle.std.proofs.Common.{[], ◌∙◌, ◌≡◌, ◌+◌, ◌++◌, ℕ, List, sym, ap, subst, refl, not, Bool, true, false, length, take, arith, Some, length-drop}
 use Rattle.std.specs.Str.{bytes_eq}
 use Rattle.rb_base.specs.declared.faults.Field.TheVariants.{Magic}
-use Rattle.rb_read_defs.specs.Stream.{Seen, magic, seen_of, seen_from, cuts}
+use Rattle.rb_read_defs.specs.Stream.{magic, seen_from, cuts}
 use Rattle.rb_stream.specs.Next.{GoesOn}
 use Rattle.rb_stream.proofs.NextLaws.{magic_short, magic_wrong, magic_there}
 use Rattle.rb_stream.proofs.decoder.Decoder.pass_magic.Goals as goal

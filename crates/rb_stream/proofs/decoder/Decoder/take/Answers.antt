@@ -1,4 +1,4 @@
-use Rattle.std.proofs.Common.{◌∙◌, ◌≡◌, ◌+◌, ℕ, Ok, Bool, not, if◌then◌else◌, sym, ap, subst, refl}
+use Rattle.std.proofs.Common.{◌∙◌, ◌+◌, ℕ, Ok, Bool, not, if◌then◌else◌, sym, ap, subst, refl}
 use Rattle.rb_read_defs.specs.Stream.{is_outside}
 use Rattle.rb_stream.specs.Taking.{Takes}
 use Rattle.rb_stream.proofs.NextLaws.{open_is, outside_of}

@@ -1,4 +1,4 @@
-use Rattle.std.proofs.Common.{rules, subst, sym, ◌∙◌, ◌++◌, Option, List, map, take_all, arith}
+use Rattle.std.proofs.Common.{rules, subst, sym, ◌∙◌, ◌++◌, Option, List, map, take_all}
 use Rattle.rb_read_defs.specs.declared.answers.StatusRow.{StatusRow}
 use Rattle.rb_stream.specs.declared.told.Told.{Told}
 use Rattle.rb_stream.specs.Told.{Tells, TellsAll}
