@@ -1,8 +1,9 @@
 #!/bin/sh
-# Runs the program on scripts of inserts, closes and log writes of 10,000 and of 100,000 lines, and holds its times and its memory
-# to their bounds.
-# Usage: bench/first-path.sh [PROGRAM]; by default the program that ./rb builds. It needs python3 and GNU time.
-# It ends with 0 where all bounds hold, with 1 where one is broken or a report is wrong, and with 2 where it cannot measure.
+# Measures time and memory on scripts of inserts, closes and log writes, of 10,000 and of 100,000
+# lines, and compares them with their bounds.
+# Usage: bench/first-path.sh [PROGRAM]. The default is the proved program that ./rb build leaves.
+# Needs python3 and GNU time. Exit status: 0 if all bounds hold, 1 if one is broken or a report is
+# wrong, 2 if it cannot measure.
 here=$(cd "$(dirname "$0")" && pwd) || exit 2
 PYTHONPATH=$here exec python3 - "${1:-$here/../crates/rb_cli/out/rb_cli}" <<'PYTHON'
 import sys
@@ -18,8 +19,8 @@ MOST_TIMES_MEMORY = 4
 
 
 def model_of(lines):
-    """A script of so many lines: one node and one table, then inserts spread evenly, and between them closes and log writes in
-    turn."""
+    """Returns a script of `lines` lines: one node and one table, then inserts spread evenly, with
+    closes and log writes between them."""
     model = Model()
     rest = lines - len(model.lines)
     inserted, closes = 0, False

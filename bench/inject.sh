@@ -1,11 +1,13 @@
 #!/bin/sh
-# Runs the program on scripts whose epochs are all written to the log: 1,000 epochs of 100 changes and 49,000 epochs of one change,
-# with binlog files of 512 bytes, so that each epoch or every second one rotates the log, and of 67,108,864 bytes. It prints how many
-# epochs and bytes of log that is in a second, and how many calls of the log device each epoch takes, six and four more for a rotation,
-# and holds the time for each epoch to a bound on its growth with the log. The calls are counted by the model of the run, as
-# the order of the calls says, since the program does not tell how many it made.
-# Usage: bench/inject.sh [PROGRAM]; by default the program that ./rb builds. It needs python3 and GNU time.
-# It ends with 0 where the bounds hold, with 1 where one is broken or a report is wrong, and with 2 where it cannot measure.
+# Measures scripts whose epochs are all written to the log: 1,000 epochs of 100 changes and 49,000
+# epochs of one change. Binlog files have 512 bytes, so that each epoch or every second one rotates
+# the log, or 67,108,864 bytes. Prints epochs and bytes of log a second, and the calls of the log
+# device for each epoch: six, and four more for a rotation. The model of the run counts these calls,
+# since the program does not print them. Compares the growth of the time for each epoch with its
+# bound.
+# Usage: bench/inject.sh [PROGRAM]. The default is the proved program that ./rb build leaves.
+# Needs python3 and GNU time. Exit status: 0 if all bounds hold, 1 if one is broken or a report is
+# wrong, 2 if it cannot measure.
 here=$(cd "$(dirname "$0")" && pwd) || exit 2
 PYTHONPATH=$here exec python3 - "${1:-$here/../crates/rb_cli/out/rb_cli}" <<'PYTHON'
 import sys
@@ -22,7 +24,8 @@ MOST_RATIO = 1.3
 
 
 def model_of(epochs, changes, limit):
-    """A script of so many epochs, each of one transaction that inserts so many rows. All are written, a thousand at a time."""
+    """Returns a script of epochs of one transaction each, which inserts a number of rows. All epochs
+    are written, a thousand at a time."""
     model = Model(limit=limit)
     for at in range(epochs):
         model.insert_all({key: 3 * key for key in range(at * changes, (at + 1) * changes)})
@@ -33,7 +36,7 @@ def model_of(epochs, changes, limit):
 
 
 def measured(program, timer, folder, epochs, changes, limit):
-    """The time for each epoch of such a script, at best."""
+    """Returns the best time for each epoch of such a script."""
     model = model_of(epochs, changes, limit)
     script = f"{folder}/script"
     with open(script, "w") as file:

@@ -1,4 +1,4 @@
-"""What the benchmarks share: a model of a site, which tells the report that a script must have, and measuring."""
+"""A model of a site, which gives the report that a script must have, and functions to measure with."""
 import os
 import shutil
 import subprocess
@@ -9,24 +9,25 @@ FIRST_EPOCH = 2**32
 END = "done"
 RUNS = 9
 
-# The bytes of a log: in each file the magic and the format event, and then for each epoch of so many inserts of rows of two
-# numbers BEGIN, two table maps, the status row, the rows and XID. `t` is the table's name. A rotate event ends a full file. The index
-# has a record for each epoch, and a byte at its end.
+# The bytes of a log. Each file begins with the magic number and the format event. Each epoch has
+# BEGIN, two table maps, the status row, the inserts of rows of two numbers into the table `t`, and
+# XID. A rotate event ends a full file. The index has a record for each epoch, and a byte at its end.
 LOG_START = 4 + (19 + 92)
 LOG_EPOCH = 38 + 62 + 39 + 61 + 27
 LOG_CHANGE = 57
 LOG_ROTATE = 19 + 8 + len("a-bin.000002")
 INDEX_RECORD = 65
-# The calls of the log device: an epoch's bytes, its record and its gate are each written and synced, and so are a rotate event and the
-# start of the next file.
+# The calls of the log device: an epoch's bytes, its record and its gate are each written and synced,
+# and so are a rotate event and the start of the next file.
 EPOCH_CALLS = 6
 ROTATION_CALLS = 4
 DEFAULT_LIMIT = 1048576
 
 
 class Model:
-    """A site with the table `t num`. A message is an epoch, a bucket, and a place among the bucket's changes in the epoch, or
-    END. Each method is a line of a script, and appends that line and its answer. The script loses no group."""
+    """A site with the table `t num`. A message is an epoch, a bucket, and a place among the bucket's
+    changes in the epoch, or END. Each method appends a line of a script and its outcome. The script
+    loses no group."""
 
     def __init__(self, groups=1, replicas=1, limit=DEFAULT_LIMIT):
         self.lines = [f"site A groups {groups} replicas {replicas} limit {limit}", "table t num"]
@@ -82,7 +83,7 @@ class Model:
         self.insert_all({key: value})
 
     def insert_all(self, rows):
-        """One transaction, whose keys are not there yet."""
+        """Appends one transaction with new keys."""
         self.rows.update(rows)
         self.drawn += 1
         for key in rows:
@@ -150,7 +151,7 @@ class Model:
         self._say("deliver A all", self._deliver_all())
 
     def _missing(self):
-        """The first thing that the next epoch lacks, or None where it is whole."""
+        """Returns the first thing that the next epoch lacks, or None if it is whole."""
         if not self.untaken:
             return f"0:{END}"
         epoch, counts = self.untaken[0]
@@ -180,7 +181,7 @@ class Model:
         return "\n".join(self.lines) + "\n"
 
     def _places(self):
-        """The file of each written epoch, where it starts and where it ends, and the file behind the last one."""
+        """Returns file, start and end of each written epoch, and the file after the last one."""
         file, end = 1, LOG_START
         places = []
         for _, changes in self.written:
@@ -199,13 +200,13 @@ class Model:
         return "\n".join(["ndb replication report", *self.answers, *log, f"table A t rows={len(rows)}", *rows, "end"]) + "\n"
 
     def log_bytes(self):
-        """The bytes of all files, with those of the index."""
+        """Returns the number of bytes of all files and the index."""
         _, files = self._places()
         epochs = sum(LOG_EPOCH + LOG_CHANGE * changes for _, changes in self.written)
         return files * LOG_START + (files - 1) * LOG_ROTATE + epochs + len(self.written) * INDEX_RECORD + 1
 
     def device_calls(self):
-        """The calls of the device that log the epochs, as the order of the calls says."""
+        """Returns the number of device calls that log the epochs."""
         _, files = self._places()
         return len(self.written) * EPOCH_CALLS + (files - 1) * ROTATION_CALLS
 
@@ -216,7 +217,7 @@ def stop(why):
 
 
 def program_given():
-    """The program of the command line, which is to be measured."""
+    """Returns the program to measure, from the command line."""
     program = os.path.abspath(sys.argv[1])
     if not os.access(program, os.X_OK):
         stop("there is no such program; ./rb builds it")
@@ -224,7 +225,7 @@ def program_given():
 
 
 def program_and_timer():
-    """The same, and GNU time."""
+    """Returns the program to measure, and GNU time."""
     timer = shutil.which("time")
     if timer is None:
         stop("GNU time is not installed")
@@ -232,7 +233,7 @@ def program_and_timer():
 
 
 def seconds_of(program, script, report):
-    """The best time of several runs, each of which must print the report."""
+    """Returns the best time of several runs, each of which must print the report."""
     best = None
     for _ in range(RUNS):
         with open(script, "rb") as source:
@@ -247,7 +248,7 @@ def seconds_of(program, script, report):
 
 
 def memory_of(timer, program, script):
-    """The greatest resident memory of a run, in bytes."""
+    """Returns the greatest resident memory of a run, in bytes."""
     with open(script, "rb") as source:
         run = subprocess.run([timer, "-f", "%M", program, "run"], stdin=source, capture_output=True)
     return int(run.stderr.split()[-1]) * 1024

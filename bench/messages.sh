@@ -1,9 +1,10 @@
 #!/bin/sh
-# Runs the program on scripts of 10,000 and of 100,000 lines in which messages are delivered one by one, twice and all
-# together, and on a script of 1,000 epochs in which nodes fail and start again, and the same without failures. It holds the
-# ratios of its times to their bounds.
-# Usage: bench/messages.sh [PROGRAM]; by default the program that ./rb builds. It needs python3.
-# It ends with 0 where the bounds hold, with 1 where one is broken or a report is wrong, and with 2 where it cannot measure.
+# Measures scripts of 10,000 and of 100,000 lines in which messages are delivered one by one, twice
+# and all together; and a script of 1,000 epochs with and without nodes that fail and restart.
+# Compares the ratios of the times with their bounds.
+# Usage: bench/messages.sh [PROGRAM]. The default is the proved program that ./rb build leaves.
+# Needs python3. Exit status: 0 if all bounds hold, 1 if one is broken or a report is wrong, 2 if it
+# cannot measure.
 here=$(cd "$(dirname "$0")" && pwd) || exit 2
 PYTHONPATH=$here exec python3 - "${1:-$here/../crates/rb_cli/out/rb_cli}" <<'PYTHON'
 import sys
@@ -23,8 +24,8 @@ MOST_WITH_FAILURES = 1.5
 
 
 def model_of(lines):
-    """A script of so many lines: one node and one table, then inserts spread evenly, an inject each hundred lines, and in turn
-    closes, deliveries of one place, and deliveries of all."""
+    """Returns a script of `lines` lines: one node and one table, then inserts spread evenly, an
+    inject each hundred lines, and closes, deliveries of one place and deliveries of all."""
     model = Model()
     rest = lines - len(model.lines)
     inserted = turn = 0
@@ -46,8 +47,9 @@ def model_of(lines):
 
 
 def failing_model(fails):
-    """A script of epochs with inserts spread evenly, which are written to the log in as many turns as there are failures. Where
-    it fails, a node of the next group fails in each turn after a quarter of its epochs, and starts again after a half."""
+    """Returns a script of epochs with inserts spread evenly, written in as many rounds as there are
+    failures. With failures, a node of the next group fails after a quarter of each round's epochs,
+    and restarts after a half."""
     model = Model(GROUPS, REPLICAS)
     each = EPOCHS // FAILURES
     for at in range(EPOCHS):
@@ -66,7 +68,7 @@ def failing_model(fails):
 
 
 def timed(program, folder, model):
-    """The best time of the runs of a model's script."""
+    """Returns the best time of the runs of a model's script."""
     script = f"{folder}/script"
     with open(script, "w") as file:
         file.write(model.script())
@@ -81,7 +83,7 @@ def main():
     with tempfile.TemporaryDirectory() as folder:
         small, large = (timed(program, folder, model_of(lines)) for lines in (SMALL, LARGE))
         models = failing_model(False), failing_model(True)
-        # What is sent again costs what any message does: it is counted, and the times are compared by message.
+        # A resent message costs what any message does, so the times are compared by message.
         steady, failing = (timed(program, folder, model) / len(model.sent) for model in models)
     holds = [
         judge("ratio of the times", large / small, MOST_RATIO, ".1f", ""),

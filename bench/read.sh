@@ -1,12 +1,12 @@
 #!/bin/sh
-# Reads logs of 1 MB and of 200 MB, of epochs of 100 changes and of one change, checks the first epochs of their texts, and holds
-# time per byte and memory to their bounds.
-# The logs are made here, byte by byte as docs/LOG_FORMAT.md says, since a script has 100,000 changes at most and binlog files of
-# 67,108,864 bytes, too few for one file of 200 MB. The smaller ones are compared with what the program writes for a script of
-# the same epochs.
-# Usage: bench/read.sh [PROGRAM [WRITER]]; by default the programs that ./rb and ./rb logs build. It needs python3 and GNU time, and
-# 250 MB in the folder for temporary files.
-# It ends with 0 where all bounds hold, with 1 where one is broken or a text is wrong, and with 2 where it cannot measure.
+# Reads logs of 1 MB and of 200 MB, of epochs of 100 changes and of one change. Checks the first
+# epochs of their texts, and compares time per byte and memory with their bounds.
+# This script makes the logs itself, byte by byte as docs/LOG_FORMAT.md says: a script of the program
+# has at most 100,000 changes, too few for one file of 200 MB. The small logs are compared with what
+# the program writes for a script of the same epochs.
+# Usage: bench/read.sh [PROGRAM [WRITER]]. The defaults are the proved programs that ./rb build
+# leaves. Needs python3, GNU time, and 250 MB for temporary files. Exit status: 0 if all bounds hold,
+# 1 if one is broken or a text is wrong, 2 if it cannot measure.
 here=$(cd "$(dirname "$0")" && pwd) || exit 2
 PYTHONPATH=$here exec python3 - "${1:-$here/../crates/rb_cli/out/rb_cli}" "${2:-$here/../crates/rb_logs/out/rb_logs}" <<'PYTHON'
 import os
@@ -38,7 +38,7 @@ def number(value, width):
 
 
 class Log:
-    """A log of site A whose epochs have so many inserts each, and the text that it must have."""
+    """A log of site A whose epochs have a number of inserts each, and the text that it must have."""
 
     def __init__(self, changes):
         self.changes = changes
@@ -53,7 +53,7 @@ class Log:
         return bytes(4) + bytes([kind]) + number(1, 4) + number(size, 4) + number(self.position, 4) + bytes(2) + payload
 
     def epoch(self):
-        """The next epoch's bytes, and its text."""
+        """Returns the next epoch's bytes, and its text."""
         epoch = FIRST_EPOCH + self.epochs
         self.epochs += 1
         status = bytes(6) + number(0, 2) + number(2, 2) + b"\x05\x1f" + b"\0" + number(1, 4) + number(epoch, 8) + b"\0" + bytes(16)
@@ -70,7 +70,7 @@ class Log:
         return b"".join(events), "\n".join([title, *lines]) + "\n"
 
     def write(self, path, size):
-        """Writes a log of about so many bytes, and answers the text of its first epochs."""
+        """Writes a log of about `size` bytes, and returns the text of its first epochs."""
         text = "ndb binlog read\n"
         with open(path, "wb", buffering=MEGABYTE) as file:
             file.write(self.start)
@@ -83,7 +83,7 @@ class Log:
 
 
 def written(writer, epochs, changes):
-    """Binlog file 1 of a script of so many such epochs, as the program writes it."""
+    """Returns binlog file 1 of a script of such epochs, as the program writes it."""
     model = Model(limit=LARGEST_LIMIT)
     for first in range(1, epochs * changes + 1, changes):
         model.insert_all({key: 3 * key for key in range(first, first + changes)})
@@ -96,7 +96,7 @@ def written(writer, epochs, changes):
 
 
 def check_written(writer, path, epochs, changes):
-    """The program writes this very log."""
+    """Checks that the program writes this log."""
     with open(path, "rb") as file:
         if file.read() != written(writer, epochs, changes):
             print("the log is not what the program writes", file=sys.stderr)
@@ -104,7 +104,7 @@ def check_written(writer, path, epochs, changes):
 
 
 def read(program, path, runs, text):
-    """The best time of several readings, whose text must begin so and end with no byte left."""
+    """Returns the best time of several readings, whose text must begin so and leave no byte."""
     best = None
     for _ in range(runs):
         with open(path, "rb") as source:
@@ -127,7 +127,7 @@ def read(program, path, runs, text):
 
 
 def memory_of(timer, program, path):
-    """The greatest resident memory of a reading, in bytes."""
+    """Returns the greatest resident memory of a reading, in bytes."""
     with open(path, "rb") as source:
         run = subprocess.run([timer, "-f", "%M", program, "read"], stdin=source, stdout=subprocess.DEVNULL, stderr=subprocess.PIPE)
     return int(run.stderr.split()[-1]) * 1024

@@ -1,4 +1,4 @@
--- The last of some items.
+-- The last item of a list.
 use Rattle.std.proofs.Common.{◌≡◌, ◌-◌, List, [], ◌∷◌, length, refl, arith}
 use Rattle.std.specs.Prelude.{Some, None}
 use Rattle.std.specs.List.{slice_get, last_or}
@@ -7,7 +7,7 @@ last_from : {X : Type 0} (x : X) (xs : List X) → slice_get (x ∷ xs) (length 
 last_from x [] = refl
 last_from x (y ∷ ys) = last_from y ys
 
--- it stands at the last place
+-- the last item is the one at the last place
 pub last_got : {X : Type 0} (xs : List X) → slice_get xs (length xs - 1) ≡ last_or None xs
 last_got [] = refl
 last_got (x ∷ xs) = let e : length (x ∷ xs) - 1 ≡ length xs = omega arith in rw e (last_from x xs)

@@ -1,6 +1,6 @@
--- How keys are spread over buckets.
+-- The bucket of a key.
 use Rattle.std.specs.Prelude.{ℕ, ◌+◌, ◌%◌}
 
--- keys that follow each other go to buckets that follow each other, from one that the table shifts
+-- consecutive keys go to consecutive buckets; the table's number shifts the first one
 abbrev pub bucket_number : (table key buckets : ℕ) → ℕ
 bucket_number table key buckets = (key % buckets + table) % buckets

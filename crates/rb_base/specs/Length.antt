@@ -1,10 +1,11 @@
--- Length-encoded numbers, as the MySQL protocol writes them.
+-- Length-encoded integers, as the MySQL protocol writes them.
 use Rattle.std.specs.Prelude.{ℕ, ◌+◌, ◌==◌, ◌||◌, nat_lt, nat_le, if◌then◌else◌, List, [], ◌∷◌, length, drop, slice_get, Option, Some, None}
 use Rattle.byteorder.specs.Endian.{little_bytes, little_number}
 use Rattle.rb_base.specs.declared.faults.LengthRead.{LengthRead}
 use Rattle.rb_base.specs.declared.faults.LengthRead.TheVariants.{Number, Short, Wrong}
 
--- one byte below 251; else a byte that says how many follow, and the number in 2, 3 or 8 bytes, the lowest first
+-- a number below 251 is one byte; any other number is a byte that gives its width, and then the
+-- number in 2, 3 or 8 bytes, the lowest byte first
 unfoldable pub length_bytes : ℕ → List ℕ
 length_bytes n =
     if nat_lt n 251 then n ∷ []
@@ -12,11 +13,12 @@ length_bytes n =
     else (if nat_lt n 16777216 then 253 ∷ little_bytes 3 n
     else 254 ∷ little_bytes 8 n))
 
--- how many bytes of the number follow its first byte, where that is `fc`, `fd` or `fe`
-abbrev pub width_behind : (first : ℕ) → ℕ
-width_behind first = if first == 252 then 2 else (if first == 253 then 3 else 8)
+-- how many bytes of the number follow its first byte, if that is `fc`, `fd` or `fe`
+abbrev pub width_after : (first : ℕ) → ℕ
+width_after first = if first == 252 then 2 else (if first == 253 then 3 else 8)
 
--- the number that stands at a place, and the place behind it, in the shortest form or a longer one: `fb` and `ff` begin no number
+-- the number that starts at a place, in the shortest form or a longer one, and the place after it;
+-- `fb` and `ff` begin no number
 unfoldable pub length_read : List ℕ → (at : ℕ) → LengthRead
 length_read bytes at = by_first (slice_get bytes at)
   where
@@ -25,4 +27,4 @@ length_read bytes at = by_first (slice_get bytes at)
     by_first (Some first) =
         if (first == 251) || (first == 255) then Wrong
         else (if nat_lt first 251 then Number first (at + 1)
-        else (if nat_le (at + 1 + width_behind first) (length bytes) then Number (little_number (width_behind first) (drop (at + 1) bytes)) (at + 1 + width_behind first) else Short))
+        else (if nat_le (at + 1 + width_after first) (length bytes) then Number (little_number (width_after first) (drop (at + 1) bytes)) (at + 1 + width_after first) else Short))

@@ -3,35 +3,36 @@ use crate::epoch::Epoch;
 use crate::list::Items;
 use crate::schema::MappedTables;
 
-/// What the injector logs of one epoch: the changes, the tables that they name, and, at a site that reflects
-/// epochs, the last epoch of its peer that it applied within this one.
+/// What the injector logs of one epoch: the changes and the tables that they name. At a site that
+/// reflects epochs, also the last epoch of its peer that it applied within this one.
 #[derive(Debug, Drop)]
 pub struct EpochBody {
-    /// The server id of the site.
+    /// The site's server id.
     pub server: u32,
     pub epoch: Epoch,
     pub reflected: Option<Epoch>,
-    /// Ascending by id, each once.
+    /// The tables of the changes, in ascending order of their ids, each once.
     pub tables: MappedTables,
     pub changes: Changes,
 }
 
 pub type Bodies = Items<EpochBody>;
 
-/// The changes of one bucket in an epoch.
+/// The changes of one bucket in one epoch.
 pub type Part = Changes;
 
-/// The parts of an epoch, bucket 0 first.
+/// The parts of one epoch, in the order of the buckets from 0.
 pub type Parts = Items<Part>;
 
-/// A row of `mysql.ndb_binlog_index`: where an epoch stands in the binlog, and what it holds.
+/// A row of `mysql.ndb_binlog_index`: the place of an epoch in the binlog, and how many rows it
+/// changes.
 #[derive(Clone, Copy, Debug, PartialEq, Eq)]
 pub struct IndexRow {
     pub epoch: Epoch,
     pub orig_epoch: Epoch,
-    /// Where the epoch's first event begins, in bytes from the file's start.
+    /// The position of the epoch's first event, in bytes from the start of `file`.
     pub position: u64,
-    /// Where its last event ends.
+    /// The position after the epoch's last event.
     pub next_position: u64,
     pub file: u32,
     pub next_file: u32,

@@ -1,7 +1,7 @@
 ghost use Rattle.std.specs.Prelude.{◌≡◌, ◌<◌};
 ghost use Rattle.rb_base.specs.Bucket.{bucket_number};
 
-/// The bucket of a key of a table, of so many buckets.
+/// Returns the bucket, below `buckets`, of a key of a table.
 pub fn bucket_of(table: u16, key: u64, buckets: u32) -> u32
     requires { 0 < buckets }
     ensures bucket { result ≡ bucket_number table key buckets }

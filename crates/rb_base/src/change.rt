@@ -6,7 +6,7 @@ use crate::memory::NoMemory;
 use crate::row::Row;
 use std::alloc::Global;
 
-/// What a change does to its row, as the three kinds of rows events.
+/// The kind of a change, one for each of the three kinds of rows events.
 #[derive(Clone, Copy, Debug, PartialEq, Eq)]
 pub enum Kind {
     Insert,
@@ -14,28 +14,29 @@ pub enum Kind {
     Remove,
 }
 
-/// One change of one row.
+/// A change of one row.
 #[derive(Debug, Drop)]
 pub struct Change {
-    /// The number of the table: 0 for the apply-status table, else its place in the script's declarations, from 1.
+    /// The number of the table: 0 for the apply-status table, otherwise its place among the
+    /// script's declarations, counted from 1.
     pub table: u16,
-    /// The row's key, which is value 0 of each image.
+    /// The row's key, which is value 0 of each row image.
     pub key: u64,
     pub kind: Kind,
-    /// The row before the change, where there was one that the change names.
+    /// The before image. An insert has none.
     pub before: Option<Row>,
-    /// The row after it, where it leaves one.
+    /// The after image. A remove has none.
     pub after: Option<Row>,
     /// The server id of the site whose client or applier made the change.
     pub author: u32,
-    /// The number of the transaction at its author, from 1.
+    /// The transaction's number at its author, counted from 1.
     pub transid: u64,
 }
 
 pub type Changes = Items<Change>;
 
 impl Change {
-    /// An equal change.
+    /// Returns an equal change.
     pub fn copy(&self, alloc: Global) -> Result<Change, NoMemory>
         ensures { IfOk result (λ copy. copy ≡ self.now) }
     {
@@ -51,7 +52,8 @@ impl Change {
     }
 }
 
-/// Why a change was rejected, as the column `NDB$CFT_CAUSE` of an exceptions table tells it.
+/// The reason for which a change was rejected, as in the column `NDB$CFT_CAUSE` of an exceptions
+/// table.
 #[derive(Clone, Copy, Debug, PartialEq, Eq)]
 pub enum Cause {
     DataInConflict,
@@ -60,8 +62,8 @@ pub enum Cause {
     TransInConflict,
 }
 
-/// A row of an exceptions table `T$EX`: the site that rejected, the source server and epoch, a count that rises
-/// from 1, the cause and the change.
+/// A row of an exceptions table `T$EX`: the site that rejected the change, the server and epoch
+/// from which it came, a count that rises from 1, the cause and the change.
 #[derive(Debug, Drop)]
 pub struct ExceptionRow {
     pub server: u32,

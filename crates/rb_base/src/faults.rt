@@ -5,16 +5,16 @@ ghost use Rattle.rb_base.specs.declared.faults.CodecFault.TheVariants.{NoMemory 
 use crate::memory::NoMemory;
 use std::alloc::{AllocError, AllocFailed};
 
-/// A source failed.
+/// The error of a source that failed.
 #[derive(Clone, Copy, Debug, PartialEq, Eq)]
 pub struct Failed;
 
-/// Why a sink or a device did not do what it was told.
+/// The error of a sink or a device.
 #[derive(Clone, Copy, Debug, PartialEq, Eq)]
 pub enum OutFault {
-    /// It failed, and its count of faults rose.
+    /// The object failed, and its count of faults rose.
     Failed,
-    /// It wants memory of its own. Nothing changed, and no count rose.
+    /// The object itself ran out of memory. It is unchanged, and so is its count of faults.
     NoMemory,
 }
 
@@ -42,7 +42,7 @@ impl<T: Drop> From<AllocFailed<T>> for OutFault {
     }
 }
 
-/// The field of a binlog event that a reader found wrong.
+/// The field of a binlog event that is wrong.
 #[derive(Clone, Copy, Debug, PartialEq, Eq)]
 pub enum Field {
     Magic,
@@ -69,12 +69,12 @@ pub enum Field {
     Limit,
 }
 
-/// Why a part of an event could not be read.
+/// The error of reading a part of an event.
 #[derive(Clone, Copy, Debug, PartialEq, Eq)]
 pub enum CodecFault {
-    /// The field that starts here does not end within the bytes.
+    /// The field that starts at this place does not end within the bytes.
     Short(usize),
-    /// The field that starts here is whole and wrong.
+    /// The field that starts at this place is complete and wrong.
     BadField(usize, Field),
     NoMemory,
 }
@@ -87,13 +87,13 @@ impl From<NoMemory> for CodecFault {
     }
 }
 
-/// What reading a length-encoded number gave.
+/// The result of reading a length-encoded number.
 #[derive(Clone, Copy, Debug, PartialEq, Eq)]
 pub enum LengthRead {
-    /// The number, and the place after it.
+    /// The number and the place after it.
     Number(u64, usize),
-    /// It does not end within the bytes.
+    /// The number does not end within the bytes.
     Short,
-    /// Its first byte, `fb` or `ff`, begins no number.
+    /// The first byte is `fb` or `ff`, which begin no number.
     Wrong,
 }

@@ -1,13 +1,13 @@
 ghost use Rattle.std.specs.Prelude.{◌≡◌, ◌≤◌, ◌++◌, length, OnOk, OnErr};
-ghost use Rattle.rb_base.specs.Length.{length_bytes, length_read, width_behind};
+ghost use Rattle.rb_base.specs.Length.{length_bytes, length_read, width_after};
 
 use crate::faults::LengthRead;
 use crate::memory::NoMemory;
 use byteorder::{ByteOrder, LittleEndian};
 use std::alloc::Global;
 
-/// Appends a number in the length-encoded form of the MySQL protocol, which binlog events use for counts: the
-/// shortest of 1, 3, 4 or 9 bytes. Without memory the output stays as it was.
+/// Appends `number` as a length-encoded integer of the MySQL protocol, in the shortest of its
+/// forms: 1, 3, 4 or 9 bytes. If memory allocation fails, `out` is unchanged.
 #[tactic(auto, unfolding(crate::specs::Length::length_bytes))]
 pub fn write_length(_alloc: Global, out: &mut Vec<u8>, number: u64) -> Result<(), NoMemory>
     ensures ok { OnOk result (out.new.items ≡ out.old.items ++ length_bytes number) }
@@ -31,9 +31,11 @@ pub fn write_length(_alloc: Global, out: &mut Vec<u8>, number: u64) -> Result<()
     Ok(())
 }
 
-/// Reads the number that starts at `at` in the length-encoded form of the MySQL protocol, the shortest form or a
-/// longer one. It answers the number and the place behind it; `Short` where its first byte or one that follows is
-/// not there; and `Wrong` where the first byte is `fb` or `ff`, which begin no number.
+/// Reads the length-encoded integer of the MySQL protocol that starts at `at`, in the shortest form
+/// or a longer one.
+///
+/// Returns the number and the place after it. Returns `Short` if `bytes` ends before the number
+/// does, and `Wrong` if the first byte is `fb` or `ff`, which begin no number.
 #[tactic(auto, unfolding(crate::specs::Length::length_read))]
 pub fn read_length(bytes: &[u8], at: usize) -> LengthRead
     requires { at ≤ length bytes.now }
@@ -48,7 +50,7 @@ pub fn read_length(bytes: &[u8], at: usize) -> LengthRead
     if first < 251 {
         return LengthRead::Number(first as u64, at + 1);
     }
-    let width = width_behind(first);
+    let width = width_after(first);
     let start = at + 1;
     if bytes.len() - start < width {
         return LengthRead::Short;
@@ -59,9 +61,9 @@ pub fn read_length(bytes: &[u8], at: usize) -> LengthRead
     )
 }
 
-/// How many bytes of the number follow its first byte, where that is `fc`, `fd` or `fe`.
-fn width_behind(first: u8) -> usize
-    ensures { result ≡ width_behind first }
+/// Returns how many bytes of the number follow its first byte, if that is `fc`, `fd` or `fe`.
+fn width_after(first: u8) -> usize
+    ensures { result ≡ width_after first }
 {
     match first {
         252 => 2,

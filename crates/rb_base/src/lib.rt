@@ -1,9 +1,9 @@
-//! The values that all of Sextantnut speaks of: sites, epochs, rows, changes, messages, log bodies, scripts
-//! and outcomes, as plain data, and lists of them.
+//! The values that all crates of Sextantnut share: sites, epochs, rows, changes, messages, log
+//! bodies, scripts and outcomes, as plain data, and lists of them.
 //!
-//! A list type is one generic type, [`Items`], that contracts see as a list. Everything else is a struct or an
-//! enum with public fields that contracts see as they are. Nothing stands below this crate but std and
-//! `byteorder`; every other crate stands above it.
+//! Every list type is the generic type [`Items`], which contracts see as a list. Every other type
+//! is a struct or an enum with public fields, which contracts see field by field. Only std and
+//! `byteorder` stand below this crate; every other crate stands above it.
 #![tactic(auto)]
 
 mod body;
@@ -24,7 +24,7 @@ mod site;
 pub use body::{Bodies, EpochBody, IndexRow, IndexRows, Part, Parts};
 pub use bucket::bucket_of;
 pub use change::{Cause, Change, Changes, ExceptionRow, ExceptionRows, Kind};
-pub use epoch::Epoch;
+pub use epoch::{Epoch, FIRST_EPOCH};
 pub use faults::{CodecFault, Failed, Field, LengthRead, OutFault};
 pub use length::{read_length, write_length};
 pub use list::{Bytes, Items, Names, Numbers};
@@ -35,6 +35,3 @@ pub use row::{Row, Rows, Value, Values};
 pub use schema::{Column, Columns, Mapped, MappedTables, Schema, Schemas};
 pub use script::{ClientOp, ClientOps, Event, Mode, Op, Setup, SiteSetup};
 pub use site::SiteId;
-
-#[cfg(test)]
-mod tests;

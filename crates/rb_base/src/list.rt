@@ -4,7 +4,7 @@ use crate::memory::NoMemory;
 use std::alloc::Global;
 use std::marker::Model;
 
-/// A list, in order. Every list type of this project is this one at its item.
+/// A list, in order. Each list type of this project is this type with its own item.
 #[derive(Debug, Drop)]
 pub struct Items<T> {
     items: Vec<T>,
@@ -22,7 +22,7 @@ impl<T> Model for Items<T> {
 }
 
 impl<T> Items<T> {
-    /// The empty list. It takes no memory until something is pushed.
+    /// Returns the empty list. It allocates nothing until an item is pushed.
     pub fn new(alloc: Global) -> Self
         ensures { result ≡ [] }
     {
@@ -31,21 +31,21 @@ impl<T> Items<T> {
         }
     }
 
-    /// The list of a vector's items.
+    /// Returns the list of a vector's items.
     pub fn from_vec(items: Vec<T>) -> Self
         ensures { result ≡ items.items }
     {
         Items { items }
     }
 
-    /// The whole list.
+    /// Returns all items as a slice.
     pub fn as_slice(&self) -> &[T]
         ensures { result.now ≡ self.now }
     {
         &self.items
     }
 
-    /// The vector of the list's items.
+    /// Returns the list's items as a vector.
     pub fn into_vec(self) -> Vec<T>
         ensures { result.items ≡ self }
     {
@@ -54,7 +54,7 @@ impl<T> Items<T> {
 }
 
 impl<T: Drop> Items<T> {
-    /// Appends an item. Without memory the list stays as it was, and the item is dropped.
+    /// Appends an item. If memory allocation fails, the list is unchanged and the item is dropped.
     pub fn push(&mut self, item: T) -> Result<(), NoMemory>
         ensures ok { OnOk result (self.new ≡ self.old ++ item ∷ []) }
         ensures err { OnErr result (self.new ≡ self.old) }
@@ -65,7 +65,7 @@ impl<T: Drop> Items<T> {
 }
 
 impl<T: Copy> Items<T> {
-    /// An equal list.
+    /// Returns an equal list; `NoMemory` if it cannot be allocated.
     pub fn copy(&self, alloc: Global) -> Result<Self, NoMemory>
         ensures { IfOk result (λ copy. copy ≡ self.now) }
     {
@@ -75,11 +75,11 @@ impl<T: Copy> Items<T> {
     }
 }
 
-/// A string of bytes: a name, a text, or a file's content.
+/// A string of bytes: a name, a text, or the content of a file.
 pub type Bytes = Items<u8>;
 
-/// Names, as those of tables.
+/// A list of names, such as those of tables.
 pub type Names = Items<Bytes>;
 
-/// Numbers, as those of calls.
+/// A list of numbers, such as the numbers of the calls that fail.
 pub type Numbers = Items<u64>;

@@ -1,6 +1,6 @@
 use std::alloc::{AllocError, AllocFailed};
 
-/// Memory ran out. It is the one answer whose cause no contract states.
+/// The error of a call that ran out of memory. It is the only error whose cause no contract states.
 #[derive(Clone, Copy, Debug, PartialEq, Eq)]
 pub struct NoMemory;
 

@@ -6,17 +6,18 @@ use crate::list::Items;
 use crate::memory::NoMemory;
 use std::alloc::Global;
 
-/// What a data node sends to the injector's event buffer.
+/// A message from a data node to the injector's event buffer.
 #[derive(Debug, Drop)]
 pub enum Message {
-    /// A change of a bucket. Its place counts the changes of the bucket in the epoch, from 0.
+    /// One change of a bucket. `place` counts the bucket's changes in the epoch, from 0.
     Part {
         bucket: u32,
         epoch: Epoch,
         place: u32,
         change: Change,
     },
-    /// The end of a bucket's epoch: how many changes it had, and the epoch that was closed before, or 0.
+    /// The end of an epoch in a bucket: the number of the bucket's changes, and the epoch that was
+    /// closed before this one, or 0.
     Done {
         bucket: u32,
         epoch: Epoch,
@@ -28,7 +29,7 @@ pub enum Message {
 pub type Messages = Items<Message>;
 
 impl Message {
-    /// An equal message.
+    /// Returns an equal message.
     pub fn copy(&self, alloc: Global) -> Result<Message, NoMemory>
         ensures { IfOk result (λ copy. copy ≡ self.now) }
     {

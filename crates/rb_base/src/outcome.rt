@@ -2,7 +2,7 @@ use crate::epoch::Epoch;
 use crate::list::Items;
 use crate::site::SiteId;
 
-/// An event of a binlog file, as `dump` lists it.
+/// An event of a binlog file, as the event `dump` of a script lists it.
 #[derive(Clone, Copy, Debug, PartialEq, Eq)]
 pub struct Listed {
     pub file: u32,
@@ -14,8 +14,8 @@ pub struct Listed {
 
 pub type ListedEvents = Items<Listed>;
 
-/// What an event of a script did. `sent` is the length of the site's Sent list after it. A `place` of `None` is
-/// the bucket's Done.
+/// The outcome of an event of a script. `sent` is the length of the site's Sent list after the
+/// event. A `place` of `None` means the bucket's Done.
 #[derive(Debug, Drop)]
 pub enum Outcome {
     Committed {
@@ -23,11 +23,11 @@ pub enum Outcome {
         epoch: Epoch,
         sent: u64,
     },
-    /// The change of this number names a row that an earlier one of its transaction named.
+    /// The change with this number names a row that an earlier change of its transaction named.
     RowTwice(u32),
-    /// The change of this number inserts a key that is there.
+    /// The change with this number inserts a key that is present.
     KeyThere(u32),
-    /// The change of this number updates or removes a key that is absent.
+    /// The change with this number updates or removes a key that is absent.
     NoKey(u32),
     Closed {
         epoch: Epoch,

@@ -4,7 +4,7 @@ use crate::list::{Bytes, Items};
 use crate::memory::NoMemory;
 use std::alloc::Global;
 
-/// The value of a column.
+/// The value of one column.
 #[derive(Debug, Drop)]
 pub enum Value {
     Num(u64),
@@ -22,7 +22,7 @@ pub struct Row {
 pub type Rows = Items<Row>;
 
 impl Value {
-    /// An equal value.
+    /// Returns an equal value.
     pub fn copy(&self, alloc: Global) -> Result<Value, NoMemory>
         ensures { IfOk result (λ copy. copy ≡ self.now) }
     {
@@ -34,7 +34,7 @@ impl Value {
 }
 
 impl Row {
-    /// An equal row.
+    /// Returns an equal row.
     pub fn copy(&self, alloc: Global) -> Result<Row, NoMemory>
         ensures { IfOk result (λ copy. copy ≡ self.now) }
     {
@@ -47,7 +47,7 @@ impl Row {
         })
     }
 
-    /// An equal row, where there is one.
+    /// Returns an equal row, or `None` if there is no row.
     pub(crate) fn copy_of(alloc: Global, row: &Option<Row>) -> Result<Option<Row>, NoMemory>
         ensures { IfOk result (λ copy. copy ≡ row.now) }
     {

@@ -7,10 +7,10 @@ use crate::schema::Schemas;
 use crate::site::SiteId;
 use std::alloc::Global;
 
-/// How conflicts between the sites are decided, by the names of the manual's conflict functions.
+/// The conflict detection function of a script, by its name in the MySQL manual.
 #[derive(Clone, Copy, Debug, PartialEq, Eq)]
 pub enum Mode {
-    /// No conflict function: every change is applied.
+    /// No conflict detection: every change is applied.
     Plain,
     /// `NDB$OLD`.
     Old,
@@ -24,8 +24,8 @@ pub enum Mode {
     EpochTrans,
 }
 
-/// The shape of one site: its node groups, the nodes of each, and the length in bytes from which a binlog file is
-/// rotated.
+/// The setup of one site: its node groups, the nodes in each group, and the length in bytes from
+/// which a binlog file is rotated.
 #[derive(Clone, Copy, Debug, PartialEq, Eq)]
 pub struct SiteSetup {
     pub groups: u32,
@@ -42,7 +42,8 @@ pub struct Setup {
     pub tables: Schemas,
 }
 
-/// What a client's operation asks for. `Put` overwrites a row that is there, and else inserts one.
+/// The kind of a client's operation. `Put` overwrites the row if the key is present, and otherwise
+/// inserts it.
 #[derive(Clone, Copy, Debug, PartialEq, Eq)]
 pub enum Op {
     Ins,
@@ -51,7 +52,8 @@ pub enum Op {
     Del,
 }
 
-/// One operation of a client's transaction. All but `Del` have the row that they put, whose value 0 is the key.
+/// One operation of a client's transaction. Every operation except `Del` has a row; its value 0 is
+/// the key.
 #[derive(Debug, Drop)]
 pub struct ClientOp {
     pub op: Op,
@@ -63,7 +65,7 @@ pub struct ClientOp {
 pub type ClientOps = Items<ClientOp>;
 
 impl ClientOp {
-    /// An equal operation.
+    /// Returns an equal operation.
     pub fn copy(&self, alloc: Global) -> Result<ClientOp, NoMemory>
         ensures { IfOk result (λ copy. copy ≡ self.now) }
     {
@@ -79,23 +81,25 @@ impl ClientOp {
 /// One event of a script.
 #[derive(Debug, Drop)]
 pub enum Event {
-    /// A client's transaction.
+    /// A client commits a transaction.
     Tx(SiteId, ClientOps),
-    /// The open epoch closes. True where the next GCI begins.
+    /// The open epoch closes. If the flag is true, the next GCI begins.
     Close(SiteId, bool),
     /// The message at this place of the site's Sent list is delivered.
     Deliver(SiteId, u64),
-    /// Every message that was never delivered is, but those of a sender that failed since.
+    /// Every message that was never delivered is delivered, except those of a sender that has
+    /// failed since.
     DeliverAll(SiteId),
-    /// The injector takes and writes all whole epochs.
+    /// The injector takes the closed epochs in order, up to the first that is not whole. It logs
+    /// those that have something to log.
     Inject(SiteId),
     /// `DeliverAll`, then `Inject`.
     Log(SiteId),
     /// A data node fails.
     Fail(SiteId, u32),
-    /// A data node starts again.
+    /// A data node restarts.
     Restart(SiteId, u32),
-    /// Each owner sends its unacknowledged messages again.
+    /// Each owner resends its unacknowledged messages.
     Resend(SiteId),
     /// The injector stops and recovers.
     Injector(SiteId),
@@ -110,18 +114,18 @@ pub enum Event {
     Pull(SiteId),
     /// The oldest decoded epoch is applied.
     Apply(SiteId),
-    /// `Pull`, then `Apply` until nothing is left.
+    /// `Pull`, then `Apply` until no decoded epoch is left.
     Flow(SiteId),
-    /// The applier stops and starts.
+    /// The applier stops and restarts.
     Applier(SiteId),
     /// The events of the site's files are listed.
     Dump(SiteId),
-    /// Both sites take over all that the other did.
+    /// Both sites replicate until each has applied everything that the other wrote.
     Drain,
 }
 
 impl Event {
-    /// An equal event.
+    /// Returns an equal event.
     pub fn copy(&self, alloc: Global) -> Result<Event, NoMemory>
         ensures { IfOk result (λ copy. copy ≡ self.now) }
     {

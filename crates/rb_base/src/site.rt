@@ -9,7 +9,7 @@ pub enum SiteId {
 }
 
 impl SiteId {
-    /// The site's server id, as its events and its apply-status rows carry it: 1 for A, 2 for B.
+    /// Returns the site's server id, as in its events and its apply-status rows: 1 for A, 2 for B.
     pub fn server_id(self) -> u32
         ensures { result ≡ server_of self }
     {
@@ -19,7 +19,7 @@ impl SiteId {
         }
     }
 
-    /// The other site.
+    /// Returns the other site.
     pub fn peer(self) -> SiteId
         ensures { result ≡ peer_of self }
     {

@@ -7,7 +7,7 @@ use Rattle.rb_base.specs.declared.site.SiteId.{SiteId}
 use Rattle.rb_log_defs.specs.File.{Binlog, files_in, rotated, rotated_at, file_start}
 use Rattle.rb_log_defs.proofs.Sizes.{name_length}
 use Rattle.rb_device_defs.specs.Files.{HoldsFiles, file_at}
-use Rattle.rb_device_defs.proofs.FrontLaws.{behind_front}
+use Rattle.rb_device_defs.proofs.PrefixLaws.{after_front}
 use Rattle.rb_binlog.specs.declared.binlog.BinlogFiles.{BinlogFiles}
 use Rattle.rb_binlog.specs.Binlog.{StandsFor, rotation_size}
 
@@ -27,12 +27,13 @@ one_more files file seen now held here others number some = grind (arith, common
 abbrev rotated_where : SiteId → Binlog → Bool → Binlog
 rotated_where site log full = if full then record log { closed = log.closed ++ rotated site (length log.closed + 1) log.last ∷ []; last = file_start site } else log
 
--- files that stand for a log whose last file has come to the limit, and for the rotated one behind both writes
+-- files that represent a log whose last file has come to the limit, and for the rotated one after
+-- both writes
 pub rotates : (files grown : BinlogFiles) (site : SiteId) (limit : ℕ) (log : Binlog) (before ended now : ℕ → List ℕ) → StandsFor files site log before → files.number < 4294967294 → limit ≤ files.length → ended files.number ≡ rotated files.site files.number (before files.number) → ((other : ℕ) → other ≢ files.number → ended other ≡ before other) → now (files.number + 1) ≡ file_start files.site → ((other : ℕ) → other ≢ files.number + 1 → now other ≡ ended other) → grown.site ≡ files.site → grown.number ≡ files.number + 1 → grown.length ≡ length (file_start files.site) → StandsFor grown site (rotated_at site limit log) now × (true ≡ nat_le limit (length log.last))
 rotates files grown site limit log before ended now stands few reached end others start rest same next size =
     let at : files.number ≡ length log.closed + 1 = stands.number_is in
     let full : nat_le limit (length log.last) ≡ true = le-leb limit (length log.last) (let e = stands.length_is in omega arith) in
-    let last : before files.number ≡ log.last = stands.held files.number (omega (arith, at)) ∙ ap (file_at (files_in log)) at ∙ behind_front log.closed log.last [] in
+    let last : before files.number ≡ log.last = stands.held files.number (omega (arith, at)) ∙ ap (file_at (files_in log)) at ∙ after_front log.closed log.last [] in
     let event : List ℕ = rotated site (length log.closed + 1) log.last in
     let ended_is : ended (length log.closed + 1) ≡ event = let s = stands.site_is in cc in
     let closed_held : HoldsFiles (log.closed ++ event ∷ []) ended = last_changed log.closed log.last event before ended stands.held ended_is (λ other away. others other (λ e. away (e ∙ at))) in

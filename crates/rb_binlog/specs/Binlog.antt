@@ -1,4 +1,4 @@
--- What the binlog files of a site stand for.
+-- What the binlog files of a site represent.
 use Rattle.std.specs.Prelude.{◌≡◌, ℕ, ◌+◌, ◌-◌, ◌^◌, ◌<◌, List, length}
 use Rattle.rb_base.specs.declared.site.SiteId.{SiteId}
 use Rattle.rb_log_defs.specs.File.{Binlog, file_name, files_in}
@@ -9,15 +9,15 @@ use Rattle.rb_binlog.specs.declared.binlog.BinlogFiles.{BinlogFiles}
 abbrev pub number_of : BinlogFiles → ℕ
 number_of files = files.number
 
--- its length
+-- the length of the last file
 abbrev pub length_of : BinlogFiles → ℕ
 length_of files = files.length
 
--- how many bytes the event has that would end it, naming the next file
+-- the size of the rotate event that would end the last file and name the next one
 abbrev pub rotation_size : BinlogFiles → ℕ
 rotation_size files = 27 + length (file_name files.site (files.number + 1))
 
--- the files of this site stand for a binlog, over a device that reads as it
+-- the files of this site represent a binlog, over a device that holds it
 pub record StandsFor (files : BinlogFiles) (site : SiteId) (log : Binlog) (seen : ℕ → List ℕ) : Type 0 where
   pub site_is : files.site ≡ site
   pub number_is : files.number ≡ length log.closed + 1
@@ -25,6 +25,6 @@ pub record StandsFor (files : BinlogFiles) (site : SiteId) (log : Binlog) (seen 
   pub length_is : files.length ≡ length log.last
   pub held : HoldsFiles (files_in log) seen
 
--- they stand for some binlog
+-- the files represent some binlog
 abbrev pub Stands : BinlogFiles → (seen : ℕ → List ℕ) → Type 0
 Stands files seen = (site : SiteId) × (log : Binlog) × StandsFor files site log seen

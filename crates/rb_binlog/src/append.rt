@@ -3,8 +3,8 @@ ghost use Rattle.rb_disk.specs.Fault.{HasDiskCause};
 
 use rb_disk::{DiskLogFault, LogDisk};
 
-/// Appends bytes to a file that ends at `end`, in one write, and syncs it. At a fault any bytes may stand where these were to stand,
-/// and what stood before them is as it was.
+/// Appends bytes to a file that ends at `end`, in one write, and syncs it. At a fault the bytes
+/// before `end` are unchanged, and any bytes may follow up to the length that was to be written.
 pub(crate) fn append_synced<D: LogDisk>(
     file: u32,
     end: u32,

@@ -3,11 +3,13 @@ ghost use Rattle.rb_disk.specs.Fault.{HasDiskCause};
 
 use rb_disk::{DiskLogFault, LogDisk};
 
-/// Cuts a file to a length, in bytes, and syncs it. At a fault what stands before that place is as it was.
+/// Truncates a file to a length, in bytes, and syncs it. At a fault the bytes before that end are
+/// unchanged.
 pub(crate) fn cut_file<D: LogDisk>(file: u32, end: u64, disk: &mut D) -> Result<(), DiskLogFault>
     requires { end ≤ length (D.seen disk.old file) }
     ensures cut { OnOk result (D.seen disk.new file ≡ take end (D.seen disk.old file)) }
-    ensures kept { OnErr result (take end (D.seen disk.new file) ≡ take end (D.seen disk.old file)) }
+    ensures kept { OnErr result (take end (D.seen disk.new file)
+        ≡ take end (D.seen disk.old file)) }
     ensures others { (other : ℕ) → other ≢ file → D.seen disk.new other ≡ D.seen disk.old other }
     ensures cause { HasDiskCause (D.fault_count disk.old) (D.fault_count disk.new) result }
 {
@@ -16,7 +18,7 @@ pub(crate) fn cut_file<D: LogDisk>(file: u32, end: u64, disk: &mut D) -> Result<
     Ok(())
 }
 
-// Cuts a file to nothing and syncs it, where it has bytes.
+// Empties a file that has bytes, and syncs it.
 fn empty_file<D: LogDisk>(file: u32, disk: &mut D) -> Result<(), DiskLogFault>
     ensures empty { OnOk result (D.seen disk.new file ≡ []) }
     ensures others { (other : ℕ) → other ≢ file → D.seen disk.new other ≡ D.seen disk.old other }
@@ -29,7 +31,7 @@ fn empty_file<D: LogDisk>(file: u32, disk: &mut D) -> Result<(), DiskLogFault>
     Ok(())
 }
 
-/// Cuts all files behind this one to nothing, and syncs them. The files up to it stay, whatever comes.
+/// Empties all files after this one, and syncs them. The files up to it never change.
 pub(crate) fn empty_later<D: LogDisk>(file: u32, disk: &mut D) -> Result<(), DiskLogFault>
     requires { file < 2 ^ 32 - 1 }
     ensures empty { OnOk result ((later : ℕ) → file < later → D.seen disk.new later ≡ []) }

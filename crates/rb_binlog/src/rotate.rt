@@ -10,14 +10,15 @@ use rb_codec::{file_name, write_rotate};
 use rb_disk::{DiskLogFault, LogDisk};
 use std::alloc::Global;
 
-/// Where the events of a file begin, behind its magic.
+/// The position of a file's first event, after the magic number.
 const FIRST_POSITION: u64 = 4;
 
-// The rotate event of a file that ends at `start`: the log goes on in the next one.
+// Returns the rotate event of a file that ends at `start`: the log continues in the next one.
 fn rotate_bytes(alloc: Global, site: SiteId, file: u32, start: u32) -> Result<Vec<u8>, NoMemory>
     requires number { file < 2 ^ 32 - 1 }
     requires fits { start + (27 + length (name_of site (file + 1))) < 2 ^ 32 }
-    ensures { IfOk result (λ bytes. bytes.items ≡ rotate_event (server_of site) 4 (name_of site (file + 1)) start) }
+    ensures { IfOk result (λ bytes. bytes.items
+        ≡ rotate_event (server_of site) 4 (name_of site (file + 1)) start) }
 {
     let name = file_name(alloc, site, file + 1)?;
     let mut bytes = Vec::new(alloc);
@@ -32,8 +33,8 @@ fn rotate_bytes(alloc: Global, site: SiteId, file: u32, start: u32) -> Result<Ve
     Ok(bytes)
 }
 
-/// Writes the rotate event that names the next file to a file that ends at `end`, and syncs it. At a fault what stood there
-/// before is as it was.
+/// Writes the rotate event that names the next file to a file that ends at `end`, and syncs it. At
+/// a fault the bytes before `end` are unchanged.
 pub(crate) fn end_file<D: LogDisk>(
     alloc: Global,
     site: SiteId,

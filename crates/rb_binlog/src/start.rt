@@ -4,14 +4,11 @@ ghost use Rattle.rb_disk.specs.Fault.{HasDiskCause};
 
 use crate::append::append_synced;
 use rb_base::{NoMemory, SiteId};
-use rb_codec::write_format;
+use rb_codec::{MAGIC, write_format};
 use rb_disk::{DiskLogFault, LogDisk};
 use std::alloc::Global;
 
-/// The first bytes of every binlog file.
-const MAGIC: [u8; 4] = [0xfe, b'b', b'i', b'n'];
-
-// The bytes with which each of a site's files begins.
+// Returns the bytes with which each of a site's files begins.
 #[tactic(auto, unfolding(rb_log_defs::specs::File::file_start))]
 fn file_start_bytes(alloc: Global, site: SiteId) -> Result<Vec<u8>, NoMemory>
     ensures bytes { IfOk result (λ bytes. bytes.items ≡ file_start site) }
@@ -22,7 +19,7 @@ fn file_start_bytes(alloc: Global, site: SiteId) -> Result<Vec<u8>, NoMemory>
     Ok(bytes)
 }
 
-/// Writes the start of a site's file to an empty one, and syncs it. Answers its length, in bytes.
+/// Writes the start of a site's file to an empty one, and syncs it. Returns its length, in bytes.
 pub(crate) fn begin_file<D: LogDisk>(
     alloc: Global,
     site: SiteId,

@@ -41,13 +41,13 @@ same_bucket : (first : ℕ) (xs : List (BTreeMap ℕ (List Change))) (new : BTre
 same_bucket first xs new bucket e from within =
     rw (le-leb first bucket from, slice_get_set xs (bucket - first) new (bucket - first) within, eq-eqb (bucket - first) (bucket - first) refl) refl
 
--- what is held of a bucket that is there
+-- what is held of a bucket that exists
 pub held_there : (first : ℕ) (xs : List (BTreeMap ℕ (List Change))) (old : BTreeMap ℕ (List Change)) (bucket e : ℕ) →
     first ≤ bucket → bucket - first < length xs → old ≡ get_or xs (bucket - first) old → held_in first xs e bucket ≡ changes_in old e
 held_there first xs old bucket e from within is =
     rw (le-leb first bucket from, slice_get_read xs (length xs) (bucket - first) old refl within is) refl
 
--- one change more is kept
+-- one more change is kept
 pub kept_one : (first : ℕ) (xs : List (BTreeMap ℕ (List Change))) (old new : BTreeMap ℕ (List Change)) (bucket epoch : ℕ) (change : Change) →
     first ≤ bucket → bucket - first < length xs → old ≡ get_or xs (bucket - first) old →
     ((e : ℕ) → changes_in new e ≡ (if epoch == e then changes_in old e ++ change ∷ [] else changes_in old e)) →
@@ -92,12 +92,12 @@ held_in_none first xs empty e b = go (cases_lt b first) (cases_lt (b - first) (l
     go (inr above) (inr past) = rw (le-leb first b above, slice_get_past xs (b - first) past) refl
 
 -- the epochs up to one are forgotten
-pub held_behind : (first through : ℕ) (old new : List (BTreeMap ℕ (List Change))) →
+pub held_after : (first through : ℕ) (old new : List (BTreeMap ℕ (List Change))) →
     ((place e : ℕ) → changes_at new place e ≡ (if nat_le e through then [] else changes_at old place e)) →
     (e b : ℕ) → held_in first new e b ≡ (if nat_le e through then [] else held_in first old e b)
-held_behind first through old new kept e b = go (nat_le first b)
+held_after first through old new kept e b = go (nat_le first b)
   where
-    nothing : (behind : Bool) → ◌≡◌ {A = List Change} [] (if behind then [] else [])
+    nothing : (following : Bool) → ◌≡◌ {A = List Change} [] (if following then [] else [])
     nothing true = refl
     nothing false = refl
 

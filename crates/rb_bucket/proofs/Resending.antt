@@ -21,7 +21,7 @@ closed_kept buffer bucket close = parts_kept buffer bucket close.0 ++ done_kept 
 abbrev pub first_kept : BucketBuffer → (bucket count : ℕ) → List Message
 first_kept buffer bucket count = flat_map (closed_kept buffer bucket) (close_pairs (take count buffer.closes.items))
 
--- what is found in a bucket that is there
+-- what is found in a bucket that exists
 pub found : (buffer : BucketBuffer) (bucket epoch : ℕ) (epochs : BTreeMap ℕ (List Change)) (changes : List Change) → IsBucketOf buffer bucket →
     epochs ≡ get_or buffer.buckets.items (bucket - buffer.first) epochs → changes ≡ changes_in epochs epoch → changes ≡ changes_kept buffer epoch bucket
 found buffer bucket epoch epochs changes there is read =

@@ -26,19 +26,19 @@ changes_kept buffer epoch bucket =
     if nat_le buffer.first bucket
     then changes_at buffer.buckets.items (bucket - buffer.first) epoch else []
 
--- closed epochs, each with the one that was closed before it
+-- closed epochs, each with the one closed before it
 abbrev pub close_pairs : List Close → List (ℕ × ℕ)
 close_pairs closes = map (λ (close : Close). (close.epoch.0, close.prev.0)) closes
 
--- the closed epochs, each with the one that was closed before it, the oldest first
+-- the closed epochs, each with the one closed before it, the oldest first
 abbrev pub closes_kept : BucketBuffer → List (ℕ × ℕ)
 closes_kept buffer = close_pairs buffer.closes.items
 
--- the epoch from which on it buffers
+-- the first epoch that it buffers
 abbrev pub since_of : BucketBuffer → ℕ
 since_of buffer = buffer.since.0
 
--- numbers that rise, all of them below one
+-- these numbers rise, and all are below `top`
 abbrev pub Rising : (top : ℕ) → List ℕ → Type 0
 Rising top [] = Unit {0}
 Rising top (x ∷ xs) = (x < top) × AllByRecursion (λ y. x < y) xs × Rising top xs
@@ -47,11 +47,11 @@ Rising top (x ∷ xs) = (x < top) × AllByRecursion (λ y. x < y) xs × Rising t
 abbrev pub IsBucketOf : BucketBuffer → (bucket : ℕ) → Type 0
 IsBucketOf buffer bucket = (buffer.first ≤ bucket) × (bucket < buffer.first + length buffer.buckets.items)
 
--- these changes, and one more behind those of a bucket in an epoch
+-- these changes, with one more at the end of a bucket's in an epoch
 abbrev pub with_change : (epoch bucket : ℕ) → Change → (kept : ℕ → ℕ → List Change) → ℕ → ℕ → List Change
 with_change epoch bucket change kept e b = if (epoch == e) && (bucket == b) then kept e b ++ change ∷ [] else kept e b
 
--- the Parts of these changes of a bucket in an epoch, which stand from a place on
+-- the Parts of these changes of a bucket in an epoch, from a place on
 abbrev pub parts_from : (bucket : ℕ) → Epoch → (place : ℕ) → List Change → List Message
 parts_from bucket epoch place changes = map (λ numbered. Part bucket epoch numbered.0 numbered.1) (enumerate_from place changes)
 
@@ -63,12 +63,12 @@ parts_of bucket epoch changes = parts_from bucket epoch 0 changes
 abbrev pub parts_kept : BucketBuffer → (bucket epoch : ℕ) → List Message
 parts_kept buffer bucket epoch = parts_of bucket (record { 0 = epoch }) (changes_kept buffer epoch bucket)
 
--- the end of a bucket in a closed epoch
+-- the Done of a bucket in a closed epoch
 abbrev pub done_kept : BucketBuffer → (bucket : ℕ) → (close : ℕ × ℕ) → Message
 done_kept buffer bucket close = Done bucket (record { 0 = close.0 }) (record { 0 = close.1 }) (length (changes_kept buffer close.0 bucket))
 
--- the messages of a bucket that a buffer holds: in each closed epoch, the oldest first, its Parts and its Done, and then the Parts of
--- the open epoch
+-- the messages of a bucket that a buffer holds: for each closed epoch, the oldest first, its Parts
+-- and its Done; then the Parts of the open epoch
 unfoldable pub messages_kept : BucketBuffer → (bucket opened : ℕ) → List Message
 messages_kept buffer bucket opened =
     flat_map (λ close. parts_kept buffer bucket close.0 ++ done_kept buffer bucket close ∷ []) (closes_kept buffer) ++ parts_kept buffer bucket opened

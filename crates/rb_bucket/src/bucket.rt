@@ -9,20 +9,20 @@ use rb_base::{Change, Changes, Epoch, Messages, NoMemory};
 use std::alloc::Global;
 use std::collections::{BTreeMap, VecDeque};
 
-// An epoch that was closed, and the one that was closed before it.
+// A closed epoch, and the one closed before it.
 #[derive(Clone, Copy)]
 pub(crate) struct Close {
     pub(crate) epoch: Epoch,
     pub(crate) prev: Epoch,
 }
 
-/// The buffer of one data node, of the buckets of its group.
+/// The buffer of one data node, for the buckets of its group.
 #[derive(Drop)]
 pub struct BucketBuffer {
     alloc: Global,
     // The lowest bucket of the group.
     first: u32,
-    // The changes by bucket, from the lowest, and by epoch.
+    // The changes by bucket, the lowest first, and by epoch.
     buckets: Vec<BTreeMap<u64, Changes>>,
     // The closed epochs, the oldest first.
     closes: VecDeque<Close>,
@@ -32,7 +32,8 @@ pub struct BucketBuffer {
 impl BucketBuffer {
     ghost use Rattle.rb_bucket.specs.Bucket.{changes_kept, closes_kept, since_of, IsBucketOf, with_change, Rising, messages_kept};
 
-    /// An empty buffer of the buckets from `first` on, so many, that buffers from the epoch `since` on.
+    /// Returns an empty buffer of the buckets `first` to `first + buckets - 1` that buffers from
+    /// the epoch `since` on.
     pub fn new(
         alloc: Global,
         first: u32,
@@ -40,10 +41,12 @@ impl BucketBuffer {
         since: Epoch,
     ) -> Result<BucketBuffer, NoMemory>
         requires fits { first + buckets ≤ 2 ^ 32 }
-        ensures empty { IfOk result (λ buffer. (epoch bucket : ℕ) → changes_kept buffer epoch bucket ≡ []) }
+        ensures empty { IfOk result (λ buffer. (epoch bucket : ℕ) →
+            changes_kept buffer epoch bucket ≡ []) }
         ensures closes { IfOk result (λ buffer. closes_kept buffer ≡ []) }
         ensures since { IfOk result (λ buffer. since_of buffer ≡ since.0) }
-        ensures buckets { IfOk result (λ buffer. (bucket : ℕ) → first ≤ bucket → bucket < first + buckets → IsBucketOf buffer bucket) }
+        ensures buckets { IfOk result (λ buffer. (bucket : ℕ) → first ≤ bucket →
+            bucket < first + buckets → IsBucketOf buffer bucket) }
     {
         let mut kept = Vec::new(alloc);
         for _ in 0..buckets {
@@ -58,14 +61,18 @@ impl BucketBuffer {
         })
     }
 
-    /// Buffers a change of a bucket in an epoch, and answers its place, which counts the bucket's changes in the epoch from 0.
-    /// Without memory nothing is buffered.
+    /// Buffers a change of a bucket in an epoch. Returns its place, which counts the bucket's
+    /// changes in the epoch from 0. If memory allocation fails, nothing is buffered.
     pub fn add(&mut self, bucket: u32, epoch: Epoch, change: Change) -> Result<u32, NoMemory>
         requires bucket { IsBucketOf self.old bucket }
         requires room { length (changes_kept self.old epoch.0 bucket) < 2 ^ 32 - 1 }
-        ensures place { IfOk result (λ place. place ≡ length (changes_kept self.old epoch.0 bucket)) }
-        ensures kept { OnOk result ((e b : ℕ) → changes_kept self.new e b ≡ with_change epoch.0 bucket change (changes_kept self.old) e b) }
-        ensures memory { OnErr result ((e b : ℕ) → changes_kept self.new e b ≡ changes_kept self.old e b) }
+        ensures place { IfOk result (λ place. place
+            ≡ length (changes_kept self.old epoch.0 bucket)) }
+        ensures kept { OnOk result ((e b : ℕ) →
+            changes_kept self.new e b
+            ≡ with_change epoch.0 bucket change (changes_kept self.old) e b) }
+        ensures memory { OnErr result ((e b : ℕ) →
+            changes_kept self.new e b ≡ changes_kept self.old e b) }
         ensures closes { closes_kept self.new ≡ closes_kept self.old }
         ensures since { since_of self.new ≡ since_of self.old }
         ensures buckets { (b : ℕ) → IsBucketOf self.old b → IsBucketOf self.new b }
@@ -77,9 +84,11 @@ impl BucketBuffer {
         Ok(place)
     }
 
-    /// Keeps that an epoch was closed, and which was closed before it, or 0. Without memory nothing is kept.
+    /// Records the close of an epoch, with the epoch closed before it, or 0. If memory allocation
+    /// fails, nothing is recorded.
     pub fn close(&mut self, epoch: Epoch, prev: Epoch) -> Result<(), NoMemory>
-        ensures ok { OnOk result (closes_kept self.new ≡ closes_kept self.old ++ (epoch.0, prev.0) ∷ []) }
+        ensures ok { OnOk result (closes_kept self.new ≡ closes_kept self.old
+            ++ (epoch.0, prev.0) ∷ []) }
         ensures memory { OnErr result (closes_kept self.new ≡ closes_kept self.old) }
         ensures kept { (e b : ℕ) → changes_kept self.new e b ≡ changes_kept self.old e b }
         ensures since { since_of self.new ≡ since_of self.old }
@@ -89,7 +98,7 @@ impl BucketBuffer {
         Ok(())
     }
 
-    /// How many changes it holds of a bucket in an epoch.
+    /// Returns how many changes it holds of a bucket in an epoch.
     pub fn count(&self, bucket: u32, epoch: Epoch) -> u32
         requires bucket { IsBucketOf self.now bucket }
         requires fits { length (changes_kept self.now epoch.0 bucket) < 2 ^ 32 }
@@ -99,11 +108,14 @@ impl BucketBuffer {
         changes_of(epochs, epoch.0).len() as u32
     }
 
-    /// Forgets all changes and closes of epochs up to this one. It takes no memory. The closed epochs must rise.
+    /// Releases all changes and closes of epochs up to this one. Allocates nothing. The closed
+    /// epochs must rise.
     pub fn release(&mut self, through: Epoch)
         requires rising { (top : ℕ) × Rising top (map (λ close. close.0) (closes_kept self.old)) }
-        ensures kept { (e b : ℕ) → changes_kept self.new e b ≡ (if nat_le e through.0 then [] else changes_kept self.old e b) }
-        ensures closes { closes_kept self.new ≡ filter (λ close. nat_lt through.0 close.0) (closes_kept self.old) }
+        ensures kept { (e b : ℕ) → changes_kept self.new e b
+            ≡ (if nat_le e through.0 then [] else changes_kept self.old e b) }
+        ensures closes { closes_kept self.new
+            ≡ filter (λ close. nat_lt through.0 close.0) (closes_kept self.old) }
         ensures since { since_of self.new ≡ since_of self.old }
         ensures buckets { (b : ℕ) → IsBucketOf self.old b → IsBucketOf self.new b }
     {
@@ -111,8 +123,9 @@ impl BucketBuffer {
         forget_closes(&mut self.closes, through.0);
     }
 
-    /// The messages that it holds of a bucket, in the order in which they are sent again, where this is the open epoch: in each
-    /// closed epoch, the oldest first, the Parts and then the Done, and at last the Parts of the open epoch.
+    /// Returns the messages of a bucket that it holds, in the order of a resend, when `opened` is
+    /// the open epoch: for each closed epoch, the oldest first, the Parts and then the Done; last
+    /// the Parts of the open epoch.
     pub fn messages(&self, bucket: u32, opened: Epoch) -> Result<Messages, NoMemory>
         requires bucket { IsBucketOf self.now bucket }
         requires fits { (e : ℕ) → length (changes_kept self.now e bucket) < 2 ^ 32 }
@@ -131,7 +144,7 @@ impl BucketBuffer {
         Ok(messages)
     }
 
-    /// The epoch from which on it buffers.
+    /// Returns the first epoch that it buffers.
     pub fn since(&self) -> Epoch
         ensures { result.0 ≡ since_of self.now }
     {
@@ -139,7 +152,7 @@ impl BucketBuffer {
     }
 }
 
-// There is a list for the changes of an epoch.
+// Makes a list for the changes of an epoch, if there is none.
 fn enter(alloc: Global, epochs: &mut BTreeMap<u64, Changes>, epoch: u64) -> Result<(), NoMemory>
     ensures there { OnOk result (IsSome (tree.get nat_cmp epochs.new epoch)) }
     ensures same { (e : ℕ) → changes_in epochs.new e ≡ changes_in epochs.old e }
@@ -150,12 +163,14 @@ fn enter(alloc: Global, epochs: &mut BTreeMap<u64, Changes>, epoch: u64) -> Resu
     Ok(())
 }
 
-// Appends a change to the list of an epoch, and answers its place.
+// Appends a change to the list of an epoch, and returns its place.
 fn append(epochs: &mut BTreeMap<u64, Changes>, epoch: u64, change: Change) -> Result<u32, NoMemory>
     requires there { IsSome (tree.get nat_cmp epochs.old epoch) }
     requires room { length (changes_in epochs.old epoch) < 2 ^ 32 - 1 }
     ensures place { IfOk result (λ place. place ≡ length (changes_in epochs.old epoch)) }
-    ensures kept { OnOk result ((e : ℕ) → changes_in epochs.new e ≡ (if epoch == e then changes_in epochs.old e ++ change ∷ [] else changes_in epochs.old e)) }
+    ensures kept { OnOk result ((e : ℕ) →
+        changes_in epochs.new e ≡ (if epoch == e then changes_in epochs.old e
+        ++ change ∷ [] else changes_in epochs.old e)) }
     ensures memory { OnErr result ((e : ℕ) → changes_in epochs.new e ≡ changes_in epochs.old e) }
 {
     match epochs.get_mut(&epoch) {

@@ -7,9 +7,11 @@ use crate::bucket::Close;
 use rb_base::Changes;
 use std::collections::{BTreeMap, VecDeque};
 
-/// Forgets each bucket's changes of all epochs up to this one.
+/// Releases each bucket's changes of all epochs up to this one.
 pub fn forget_in_all(buckets: &mut Vec<BTreeMap<u64, Changes>>, through: u64)
-    ensures kept { (place e : ℕ) → changes_at buckets.new.items place e ≡ (if nat_le e through then [] else changes_at buckets.old.items place e) }
+    ensures kept { (place e : ℕ) →
+        changes_at buckets.new.items place e
+        ≡ (if nat_le e through then [] else changes_at buckets.old.items place e) }
     ensures count { length buckets.new.items ≡ length buckets.old.items }
 {
     for index in 0..buckets.len() {
@@ -17,17 +19,20 @@ pub fn forget_in_all(buckets: &mut Vec<BTreeMap<u64, Changes>>, through: u64)
     }
 }
 
-// Forgets the changes of all epochs up to this one.
+// Releases the changes of all epochs up to this one.
 fn forget_epochs(epochs: &mut BTreeMap<u64, Changes>, through: u64)
-    ensures { (e : ℕ) → changes_in epochs.new e ≡ (if nat_le e through then [] else changes_in epochs.old e) }
+    ensures { (e : ℕ) → changes_in epochs.new e
+        ≡ (if nat_le e through then [] else changes_in epochs.old e) }
 {
     while forget_first_epoch(epochs, through) {}
 }
 
-// Forgets the first epoch if it is one up to this one, and answers whether it was.
+// Releases the first epoch if it is at most this one. Returns whether it was.
 fn forget_first_epoch(epochs: &mut BTreeMap<u64, Changes>, through: u64) -> bool
-    ensures kept { (e : ℕ) → nat_le e through ≡ false → changes_in epochs.new e ≡ changes_in epochs.old e }
-    ensures none { result ≡ false → (e : ℕ) → nat_le e through ≡ true → changes_in epochs.new e ≡ [] }
+    ensures kept { (e : ℕ) → nat_le e through ≡ false →
+        changes_in epochs.new e ≡ changes_in epochs.old e }
+    ensures none { result ≡ false → (e : ℕ) → nat_le e through ≡ true →
+        changes_in epochs.new e ≡ [] }
     ensures fewer { result ≡ true → btree_map_len epochs.new < btree_map_len epochs.old }
 {
     match epochs.first_key_value() {
@@ -38,20 +43,27 @@ fn forget_first_epoch(epochs: &mut BTreeMap<u64, Changes>, through: u64) -> bool
     true
 }
 
-/// Forgets the closes of all epochs up to this one. As closed epochs rise, these stand first.
+/// Releases the closes of all epochs up to this one. Closed epochs rise, so these come first.
 pub fn forget_closes(closes: &mut VecDeque<Close>, through: u64)
-    requires rising { (top : ℕ) × Rising top (map (λ close. close.0) (close_pairs closes.old.items)) }
-    ensures later { close_pairs closes.new.items ≡ filter (λ close. nat_lt through close.0) (close_pairs closes.old.items) }
+    requires rising { (top : ℕ) × Rising top
+        (map (λ close. close.0) (close_pairs closes.old.items)) }
+    ensures later { close_pairs closes.new.items
+        ≡ filter (λ close. nat_lt through close.0) (close_pairs closes.old.items) }
 {
     while forget_first_close(closes, through) {}
 }
 
-// Forgets the first close if it is of an epoch up to this one, and answers whether it was.
+// Releases the first close if its epoch is at most this one. Returns whether it was.
 fn forget_first_close(closes: &mut VecDeque<Close>, through: u64) -> bool
-    requires rising { (top : ℕ) × Rising top (map (λ close. close.0) (close_pairs closes.old.items)) }
-    ensures rising { (top : ℕ) × Rising top (map (λ close. close.0) (close_pairs closes.new.items)) }
-    ensures same { filter (λ close. nat_lt through close.0) (close_pairs closes.new.items) ≡ filter (λ close. nat_lt through close.0) (close_pairs closes.old.items) }
-    ensures none { result ≡ false → close_pairs closes.new.items ≡ filter (λ close. nat_lt through close.0) (close_pairs closes.old.items) }
+    requires rising { (top : ℕ) × Rising top
+        (map (λ close. close.0) (close_pairs closes.old.items)) }
+    ensures rising { (top : ℕ) × Rising top
+        (map (λ close. close.0) (close_pairs closes.new.items)) }
+    ensures same { filter (λ close. nat_lt through close.0) (close_pairs closes.new.items)
+        ≡ filter (λ close. nat_lt through close.0) (close_pairs closes.old.items) }
+    ensures none { result ≡ false →
+        close_pairs closes.new.items
+        ≡ filter (λ close. nat_lt through close.0) (close_pairs closes.old.items) }
     ensures fewer { result ≡ true → deque_len closes.new < deque_len closes.old }
 {
     match closes.front() {

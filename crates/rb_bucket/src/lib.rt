@@ -1,8 +1,9 @@
-//! One data node's buffer of the changes of its group's buckets, by bucket and epoch, and of the epochs that were closed.
+//! One data node's buffer: the changes of its group's buckets, by bucket and epoch, and the closed
+//! epochs.
 //!
-//! What a buffer holds is a list for each bucket and epoch (`changes_kept`), and the closed epochs (`closes_kept`); each call
-//! says how these change. From both come the messages of a bucket that are sent again (`messages_kept`). The values that are
-//! buffered stand below.
+//! A buffer holds a list of changes for each bucket and epoch (`changes_kept`), and the closed
+//! epochs (`closes_kept`); each call says how these change. Both give the messages of a bucket that
+//! are resent (`messages_kept`). The buffered values stand below.
 #![tactic(auto)]
 
 mod bucket;
@@ -10,6 +11,3 @@ mod forget;
 mod resend;
 
 pub use bucket::BucketBuffer;
-
-#[cfg(test)]
-mod tests;

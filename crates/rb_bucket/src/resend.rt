@@ -7,7 +7,7 @@ use rb_base::{Change, Changes, Epoch, Message, Messages, NoMemory};
 use std::alloc::Global;
 use std::collections::BTreeMap;
 
-/// The changes of an epoch, in order.
+/// Returns the changes of an epoch, in order.
 pub fn changes_of(epochs: &BTreeMap<u64, Changes>, epoch: u64) -> &[Change]
     ensures { result.now ≡ changes_in epochs.now epoch }
 {
@@ -17,7 +17,8 @@ pub fn changes_of(epochs: &BTreeMap<u64, Changes>, epoch: u64) -> &[Change]
     }
 }
 
-/// Appends the messages of a bucket in a closed epoch: a Part for each of its changes, and its Done.
+/// Appends the messages of a bucket in a closed epoch: a Part for each of its changes, and its
+/// Done.
 pub fn push_closed(
     alloc: Global,
     messages: &mut Messages,
@@ -26,7 +27,9 @@ pub fn push_closed(
     changes: &[Change],
 ) -> Result<(), NoMemory>
     requires { length changes.now < 2 ^ 32 }
-    ensures { OnOk result (messages.new ≡ messages.old ++ (parts_of bucket close.epoch changes.now ++ Done bucket close.epoch close.prev (length changes.now) ∷ [])) }
+    ensures { OnOk result (messages.new ≡ messages.old
+        ++ (parts_of bucket close.epoch changes.now
+        ++ Done bucket close.epoch close.prev (length changes.now) ∷ [])) }
 {
     push_parts(alloc, messages, bucket, close.epoch, changes)?;
     messages.push(Message::Done {

@@ -7,8 +7,8 @@ use std::alloc::Global;
 use std::env::{Args, Env, args};
 use std::io::ErrorKind;
 
-/// The process's arguments, without the program's name, as bytes. The error is `Usage` where an argument is no text, and
-/// `NoMemory`.
+/// Returns the process's arguments without the program's name, as bytes. The error is `Usage` if an
+/// argument is no text, or `NoMemory`.
 pub fn arguments<R: Env + AllocGlobal>(rt: &R) -> Result<Vec<Bytes>, Status> {
     match args(rt) {
         Ok(arguments) => all_words(rt.alloc(), arguments).map_err(|_| Status::NoMemory),
@@ -22,7 +22,7 @@ fn all_words(alloc: Global, arguments: Args) -> Result<Vec<Bytes>, NoMemory> {
     words(alloc, &arguments)
 }
 
-// The words of a command line: all of its arguments but the first, which is the program's name.
+// Returns the words of a command line: all arguments but the first, which is the program's name.
 fn words(alloc: Global, arguments: &[String]) -> Result<Vec<Bytes>, NoMemory>
     ensures { IfOk result (λ words. words.items ≡ map string_bytes (drop 1 arguments.now)) }
 {
@@ -32,7 +32,7 @@ fn words(alloc: Global, arguments: &[String]) -> Result<Vec<Bytes>, NoMemory>
     }
 }
 
-// These arguments as bytes.
+// Returns the arguments as bytes.
 fn copies(alloc: Global, arguments: &[String]) -> Result<Vec<Bytes>, NoMemory>
     ensures { IfOk result (λ words. words.items ≡ map string_bytes arguments.now) }
 {

@@ -1,8 +1,8 @@
-//! The program: it hands the process's arguments, its standard streams and two devices in memory to [`rb_top::top`], and
-//! ends with what the status means to a shell.
+//! The program. It hands the process's arguments, its standard streams and two devices in memory to
+//! [`rb_top::top`], and exits with the number that the status has for a shell.
 //!
-//! Its one contract is that the words are the process's arguments. Below it stand the call of the program, which carries the
-//! theorem, and what each status means to a shell; nothing stands above.
+//! Its one contract is that the words are the process's arguments. The call of the program, which
+//! carries the theorem, and the exit numbers stand below; nothing stands above.
 #![tactic(auto)]
 
 mod arguments;
@@ -11,7 +11,7 @@ mod tests;
 
 use crate::arguments::arguments;
 use rb_disk::MemoryDisk;
-use rb_ending::{exit_number, tell};
+use rb_ending::{exit_number, print_status};
 use rb_io::{StdSink, StdSource};
 use rb_top::{Status, top};
 use std::env::Env;
@@ -21,12 +21,13 @@ use std::thread::Threads;
 
 fn main(rt: HostRuntime) -> ExitCode {
     let status = run(&rt, rt.stdin(), rt.stdout());
-    // Where standard error fails too, the exit number is all that is left to say.
-    let _ = tell(rt.alloc(), &mut StdSink::new(rt.stderr()), status);
+    // If standard error fails too, only the exit number is left to report the failure.
+    let _ = print_status(rt.alloc(), &mut StdSink::new(rt.stderr()), status);
     ExitCode::from(exit_number(status))
 }
 
-// Runs the program on what the process was started with. Its output is written through: std holds none of it back.
+// Runs the program with the process's words and streams. Output is written through: std buffers
+// none of it.
 fn run<R, I, O>(rt: &R, input: I, output: O) -> Status
 where
     R: Threads + Sync + Env + AllocGlobal,

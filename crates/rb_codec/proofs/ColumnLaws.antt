@@ -1,4 +1,4 @@
--- The columns of a table map, one behind the other.
+-- The columns of a table map, one after another.
 use Rattle.std.proofs.Common.{◌≡◌, ◌+◌, ◌*◌, ◌≤◌, ◌<◌, ℕ, suc, Bool, true, false, cond, if◌then◌else◌, ◌==◌, List, [], ◌∷◌, ◌++◌, length, drop, get_or, refl, sym, ap, subst, ◌∙◌, append_assoc, arith, drop-cons, length-drop}
 use Rattle.std.specs.Prelude.{nat_le, ◌&&◌}
 use Rattle.std.specs.List.{count_by, list_all}
@@ -28,7 +28,7 @@ size_cons kind types = by_test (kind == 15) (metadata_size (kind ∷ types)) (me
     by_test true all left e l = omega (arith, e, l)
     by_test false all left e l = omega (arith, e, l)
 
--- the columns so far, and those of the types and the metadata that are left
+-- the columns so far, and the types and the metadata of the other columns
 pub record IsPart (types metadata : List ℕ) (columns : List Column) (left rest : List ℕ) : Type 0 where
   pub all : columns ++ columns_from left rest ≡ columns_from types metadata
   pub room : metadata_size left ≤ length rest
@@ -41,7 +41,7 @@ has_room types metadata columns xs i kind rest lt is part =
     let room = subst (λ (l : List ℕ). metadata_size l ≤ length rest) here part.room in
     omega (arith, room, size_cons kind (drop (suc i) xs))
 
--- and the next column is made of it
+-- the next column is read from that metadata
 pub next_part : (types metadata : List ℕ) (columns : List Column) (xs : List ℕ) (i kind : ℕ) (rest : List ℕ) → i < length xs → kind ≡ get_or xs i 0
     → IsPart types metadata columns (drop i xs) rest → IsPart types metadata (columns ++ column_from kind rest ∷ []) (drop (suc i) xs) (drop (width_of kind) rest)
 next_part types metadata columns xs i kind rest lt is part =
@@ -60,7 +60,7 @@ columns_length [] metadata = refl
 columns_length (kind ∷ types) metadata =
     ap length (columns_cons kind types metadata) ∙ ap suc (columns_length types (drop (width_of kind) metadata))
 
--- the columns of a status table
+-- the first column of the apply-status table
 status_first : (schema name types metadata : List ℕ) → are_types schema name types ≡ true → is_status schema name ≡ true → get_or (columns_from types metadata) 0 Num ≡ Long
 status_first schema name types metadata are status = by_test (is_status schema name) status are
   where
@@ -68,7 +68,7 @@ status_first schema name types metadata are status = by_test (is_status schema n
     by_test true is same = subst (λ (kinds : List ℕ). get_or (columns_from kinds metadata) 0 Num ≡ Long) (sym ((bytes_eq-Decides types (3 ∷ 8 ∷ 15 ∷ 8 ∷ 8 ∷ [])).0 same)) refl
     by_test false is same = absurd (let no : false ≡ true = is in cc)
 
--- a table that was read has columns that its rows events can be read by
+-- a table that was read has columns that are enough to read its rows events
 pub has_columns : (table : Mapped) (types metadata : List ℕ) → table.columns ≡ columns_from types metadata → (nat_le 1 (length types) && nat_le (length types) 64) ≡ true → are_types table.schema table.name types ≡ true → HasColumns table
 has_columns table types metadata is count are =
     let l = ap length is ∙ columns_length types metadata in

@@ -6,16 +6,17 @@ use Rattle.rb_base.specs.declared.schema.Column.TheVariants.{Num, Long, Text}
 use Rattle.rb_base.specs.declared.schema.Mapped.{Mapped}
 use Rattle.rb_read_defs.specs.Events.{is_status}
 
--- a table with columns that its rows events can be read by: 1 to 64, and the apply-status table has its server's number first
+-- a table whose columns are enough to read its rows events: it has 1 to 64 columns, and the first
+-- column of the apply-status table is the server id
 pub record HasColumns (table : Mapped) : Type 0 where
   pub some : 1 ≤ length table.columns
   pub few : length table.columns ≤ 64
   pub server : is_status table.schema table.name ≡ true → get_or table.columns 0 Num ≡ Long
 
--- how many bytes of metadata a column of this type has
+-- the length in bytes of the metadata of a column with this type
 abbrev pub width_of : (kind : ℕ) → ℕ
 width_of kind = if kind == 15 then 2 else 0
 
--- the column of this type, whose metadata stands first
+-- the column with this type, given bytes that begin with its metadata
 abbrev pub column_from : (kind : ℕ) → (metadata : List ℕ) → Column
 column_from kind metadata = if kind == 15 then Text (little_number 2 metadata) else (if kind == 3 then Long else Num)

@@ -3,8 +3,8 @@ ghost use Rattle.rb_log_defs.specs.Table.{bitmap_size};
 ghost use Rattle.rb_read_defs.specs.Events.{all_clear, all_set};
 ghost use Rattle.rb_codec.specs.Bitmap.{are_all, ones, whole_byte};
 
-/// Whether no column's bit is set, as in a null bitmap where nothing is NULL. The bits behind those of the columns, which fill the last
-/// byte, are not looked at.
+/// Returns whether the bits of the first `count` columns are all 0, as in a null bitmap without
+/// NULL values. The unused bits of the last byte are ignored.
 pub fn all_clear(count: usize, bitmap: &[u8]) -> bool
     requires { length bitmap.now ≡ bitmap_size count }
     ensures { result ≡ all_clear count bitmap.now }
@@ -12,7 +12,8 @@ pub fn all_clear(count: usize, bitmap: &[u8]) -> bool
     are_all(false, count, bitmap)
 }
 
-/// Whether each column's bit is set, as in a present bitmap of a full row image. The bits behind them are not looked at.
+/// Returns whether the bits of the first `count` columns are all 1, as in the present bitmap of a
+/// full row image. The unused bits of the last byte are ignored.
 pub fn all_set(count: usize, bitmap: &[u8]) -> bool
     requires { length bitmap.now ≡ bitmap_size count }
     ensures { result ≡ all_set count bitmap.now }
@@ -20,7 +21,7 @@ pub fn all_set(count: usize, bitmap: &[u8]) -> bool
     are_all(true, count, bitmap)
 }
 
-// Whether each of the first `count` bits is this one.
+// Returns whether each of the first `count` bits is `bit`.
 fn are_all(bit: bool, count: usize, bitmap: &[u8]) -> bool
     requires { length bitmap.now ≡ bitmap_size count }
     ensures { result ≡ are_all bit count bitmap.now }
@@ -41,14 +42,14 @@ fn are_all(bit: bool, count: usize, bitmap: &[u8]) -> bool
     true
 }
 
-// A byte each of whose bits is this one.
+// Returns the byte in which each bit is `bit`.
 fn whole_byte(bit: bool) -> u8
     ensures { result ≡ whole_byte bit }
 {
     if bit { u8::MAX } else { 0 }
 }
 
-// Whether each of the lowest `count` bits of a byte is this one.
+// Returns whether each of the lowest `count` bits of a byte is `bit`.
 fn are_low_bits(bit: bool, count: usize, byte: u8) -> bool
     requires { count < 8 }
     ensures { result ≡ (byte % 2 ^ count == ones bit count) }

@@ -2,6 +2,12 @@ ghost use Rattle.std.specs.Prelude.{◌≡◌, ◌≤◌, ◌-◌, ◌==◌, len
 ghost use Rattle.rb_log_defs.specs.Event.{post_header_lengths};
 ghost use Rattle.rb_read_defs.specs.Events.{is_known, are_post_headers};
 
+/// The magic number at the start of a binlog file.
+pub const MAGIC: [u8; 4] = [0xfe, b'b', b'i', b'n'];
+
+/// The length of an event's header in bytes.
+pub const HEADER_SIZE: usize = 19;
+
 /// The type code of a QUERY event.
 pub const QUERY_EVENT: u8 = 2;
 
@@ -26,13 +32,14 @@ pub const UPDATE_ROWS_EVENT: u8 = 31;
 /// The type code of a DELETE_ROWS event.
 pub const DELETE_ROWS_EVENT: u8 = 32;
 
-/// The length of the fixed part of each event's payload, for the event types from 1 to 35.
+/// The length of the post-header of each event type from 1 to 35.
 pub(crate) const POST_HEADER_LENGTHS: [u8; 35] = [
     0, 13, 0, 8, 0, 0, 0, 0, 0, 0, 0, 0, 0, 0, 92, 0, 0, 0, 8, 0, 0, 0, 0, 0, 0, 0, 0, 0, 0, 10,
     10, 10, 0, 0, 0,
 ];
 
-/// Whether events of this type are known; others are skipped, where their flags allow it.
+/// Returns whether events of this type are known. A reader skips other events if their flags allow
+/// it.
 pub fn is_known(kind: u8) -> bool
     ensures { result ≡ is_known kind }
 {
@@ -49,8 +56,8 @@ pub fn is_known(kind: u8) -> bool
     )
 }
 
-/// Whether these are the lengths of the fixed parts of at least 32 event types, and those of the known types are the
-/// lengths that are written.
+/// Returns whether these are at least 32 post-header lengths, with the right length for each known
+/// type.
 pub(crate) fn are_post_headers(lengths: &[u8]) -> bool
     ensures { result ≡ are_post_headers lengths.now }
 {
@@ -68,7 +75,8 @@ pub(crate) fn are_post_headers(lengths: &[u8]) -> bool
 fn has_length_of(lengths: &[u8], kind: u8) -> bool
     requires lengths { 32 ≤ length lengths.now }
     requires kind { (1 ≤ kind) × (kind ≤ 32) }
-    ensures { result ≡ (get_or lengths.now (kind - 1) 0 == get_or post_header_lengths (kind - 1) 0) }
+    ensures { result ≡ (get_or lengths.now (kind - 1) 0 == get_or post_header_lengths
+        (kind - 1) 0) }
 {
     let index = kind as usize - 1;
     lengths[index] == POST_HEADER_LENGTHS[index]

@@ -7,8 +7,8 @@ ghost use Rattle.rb_codec.specs.Fields.{Gives};
 use byteorder::{ByteOrder, LittleEndian};
 use rb_base::{CodecFault, Field, LengthRead, read_length};
 
-/// The fields of an event's header or payload, read one behind the other. A call that answers a fault has read nothing:
-/// the next one begins at the same field.
+/// A cursor over the fields of an event's header or payload. A call that returns a fault does not
+/// move the cursor: the next call starts at the same field.
 #[derive(Debug, Drop)]
 pub struct Fields<'a> {
     bytes: &'a [u8],
@@ -17,7 +17,7 @@ pub struct Fields<'a> {
 }
 
 impl<'a> Fields<'a> {
-    /// The fields of these bytes, from the first on.
+    /// Creates a cursor at the first of these bytes.
     pub fn new(bytes: &'a [u8]) -> Fields<'a>
         ensures bytes { result.bytes.now ≡ bytes.now }
         ensures at { result.at ≡ 0 }
@@ -25,23 +25,25 @@ impl<'a> Fields<'a> {
         Fields { bytes, at: 0 }
     }
 
-    /// Where the next field starts, in bytes from the first.
+    /// Returns the place of the next field, in bytes from the first byte.
     pub fn at(&self) -> usize
         ensures { result ≡ self.now.at }
     {
         self.at
     }
 
-    /// The number that stands so many bytes ahead of the next field, its lowest byte first; `Short` where it does
-    /// not end within the bytes.
+    /// Returns the number of `width` bytes, the lowest byte first, that starts `ahead` bytes after
+    /// the cursor. Returns `Short` if it does not end within the bytes.
     #[tactic(auto, unfolding(rb_read_defs::specs::Reading::number))]
     pub(crate) fn number_ahead(&self, ahead: usize, width: usize) -> Result<u64, CodecFault>
         requires ahead { ahead < 2 ^ 32 }
         requires some { 1 ≤ width }
         requires most { width ≤ 8 }
-        ensures gives { Gives (λ n. n) result (self.now.at + ahead + width) (number width self.now.bytes.now (self.now.at + ahead)) }
+        ensures gives { Gives (λ n. n) result (self.now.at + ahead + width)
+            (number width self.now.bytes.now (self.now.at + ahead)) }
         ensures fits { IfOk result (λ n. n < 256 ^ width) }
-        ensures within { IfOk result (λ _. self.now.at + ahead + width ≤ length self.now.bytes.now) }
+        ensures within { IfOk result (λ _.
+            self.now.at + ahead + width ≤ length self.now.bytes.now) }
     {
         let at = self.at + ahead;
         if self.bytes.len() < at + width {
@@ -50,11 +52,13 @@ impl<'a> Fields<'a> {
         Ok(number_in(&self.bytes[at..], width))
     }
 
-    /// The next number of so many bytes, its lowest byte first; `Short` where it does not end within the bytes.
+    /// Reads the next number of `width` bytes, the lowest byte first. Returns `Short` if it does
+    /// not end within the bytes.
     pub fn number(&mut self, width: usize) -> Result<u64, CodecFault>
         requires some { 1 ≤ width }
         requires most { width ≤ 8 }
-        ensures gives { Gives (λ n. n) result self.new.at (number width self.old.bytes.now self.old.at) }
+        ensures gives { Gives (λ n. n) result self.new.at
+            (number width self.old.bytes.now self.old.at) }
         ensures fits { IfOk result (λ n. n < 256 ^ width) }
         ensures bytes { self.new.bytes ≡ self.old.bytes }
         ensures err { OnErr result (self.new.at ≡ self.old.at) }
@@ -64,10 +68,11 @@ impl<'a> Fields<'a> {
         Ok(number)
     }
 
-    /// The next bytes, so many; `Short` where they do not end within the bytes.
+    /// Reads the next `count` bytes. Returns `Short` if fewer remain.
     #[tactic(auto, unfolding(rb_read_defs::specs::Reading::some_bytes))]
     pub fn some_bytes(&mut self, count: usize) -> Result<&'a [u8], CodecFault>
-        ensures gives { Gives (λ bytes. bytes.now) result self.new.at (some_bytes count self.old.bytes.now self.old.at) }
+        ensures gives { Gives (λ bytes. bytes.now) result self.new.at
+            (some_bytes count self.old.bytes.now self.old.at) }
         ensures size { IfOk result (λ bytes. length bytes.now ≡ count) }
         ensures bytes { self.new.bytes ≡ self.old.bytes }
         ensures err { OnErr result (self.new.at ≡ self.old.at) }
@@ -80,11 +85,12 @@ impl<'a> Fields<'a> {
         Ok(&self.bytes[start..self.at])
     }
 
-    /// The next length-encoded number; `Short` where it does not end within the bytes, and `BadField` with this field
-    /// where its first byte begins no number.
+    /// Reads the next length-encoded number. Returns `Short` if it does not end within the bytes,
+    /// and `BadField` with `field` if its first byte begins no number.
     #[tactic(auto, unfolding(rb_read_defs::specs::Reading::length_number))]
     pub fn length_number(&mut self, field: Field) -> Result<u64, CodecFault>
-        ensures gives { Gives (λ n. n) result self.new.at (length_number field self.old.bytes.now self.old.at) }
+        ensures gives { Gives (λ n. n) result self.new.at
+            (length_number field self.old.bytes.now self.old.at) }
         ensures bytes { self.new.bytes ≡ self.old.bytes }
         ensures err { OnErr result (self.new.at ≡ self.old.at) }
     {
@@ -98,7 +104,7 @@ impl<'a> Fields<'a> {
         }
     }
 
-    /// All bytes that are left.
+    /// Reads all bytes that remain.
     pub fn rest(&mut self) -> &'a [u8]
         ensures value { result.now ≡ drop self.old.at self.old.bytes.now }
         ensures at { self.new.at ≡ length self.old.bytes.now }
@@ -109,9 +115,10 @@ impl<'a> Fields<'a> {
         &self.bytes[start..]
     }
 
-    /// That no bytes are left; else `BadField` with the event's size.
+    /// Checks that no bytes remain. Returns `BadField` with `EventSize` if some do.
     pub fn end(&self) -> Result<(), CodecFault>
-        ensures gives { Gives (λ end. end) result self.now.at (the_end self.now.bytes.now self.now.at) }
+        ensures gives { Gives (λ end. end) result self.now.at
+            (the_end self.now.bytes.now self.now.at) }
     {
         if self.at < self.bytes.len() {
             return Err(CodecFault::BadField(self.at, Field::EventSize));
@@ -120,7 +127,7 @@ impl<'a> Fields<'a> {
     }
 }
 
-/// That a field is right, which starts at `at`; else `BadField`.
+/// Checks that the field that starts at `at` is right. Returns `BadField` if it is not.
 pub fn check(is_right: bool, at: usize, field: Field) -> Result<(), CodecFault>
     ensures ok { OnOk result (is_right ≡ true) }
     ensures err { OnErr result ((is_right ≡ false) × (result ≡ Err (faults.BadField at field))) }
@@ -131,7 +138,7 @@ pub fn check(is_right: bool, at: usize, field: Field) -> Result<(), CodecFault>
     Ok(())
 }
 
-/// The number in the first bytes, its lowest byte first.
+/// Returns the number in the first `width` bytes, the lowest byte first.
 fn number_in(bytes: &[u8], width: usize) -> u64
     requires some { 1 ≤ width }
     requires most { width ≤ 8 }

@@ -3,17 +3,21 @@ ghost use Rattle.rb_log_defs.specs.Event.{format_event, format_payload, query_ev
 
 use crate::event::write_event;
 use crate::event_types::{
-    FORMAT_DESCRIPTION_EVENT, POST_HEADER_LENGTHS, QUERY_EVENT, ROTATE_EVENT, XID_EVENT,
+    FORMAT_DESCRIPTION_EVENT, HEADER_SIZE, POST_HEADER_LENGTHS, QUERY_EVENT, ROTATE_EVENT,
+    XID_EVENT,
 };
 use byteorder::{ByteOrder, LittleEndian};
 use rb_base::NoMemory;
 use std::alloc::Global;
 
-/// The server version that each log names, at most 50 bytes.
+/// The length of a format description event's payload, in bytes.
+const FORMAT_SIZE: usize = 92;
+
+/// The server version in each log's format description, at most 50 bytes.
 const SERVER_VERSION: [u8; 6] = *b"8.0-rb";
 
-/// Appends the format description event, with which each file of the log begins: 111 bytes, of the server
-/// `server`, starting at `start`. Without memory the output stays as it was.
+/// Appends the format description event that begins each file of the log: 111 bytes, by the server
+/// `server`, starting at `start`. If memory allocation fails, `out` is unchanged.
 #[tactic(auto, using(rb_log_defs::proofs::Sizes::format_length))]
 pub fn write_format(
     alloc: Global,
@@ -38,19 +42,20 @@ pub fn write_format(
 }
 
 #[tactic(auto, unfolding(rb_log_defs::specs::Event::format_payload))]
-fn format_array() -> [u8; 92]
+fn format_array() -> [u8; FORMAT_SIZE]
     ensures { result ≡ format_payload }
 {
-    let mut payload = [0u8; 92];
+    let mut payload = [0u8; FORMAT_SIZE];
     LittleEndian::write_u16(&mut payload, 4);
     payload[2..8].copy_from_slice(&SERVER_VERSION);
-    payload[56] = 19;
+    payload[56] = HEADER_SIZE as u8;
     payload[57..].copy_from_slice(&POST_HEADER_LENGTHS);
     payload
 }
 
-/// Appends a query event of the statement `text`, as BEGIN: 33 bytes and the text, of the server `server`,
-/// starting at `start`. It names no schema and no thread. Without memory the output stays as it was.
+/// Appends a query event with the statement `text`, such as BEGIN: 33 bytes and the text, by the
+/// server `server`, starting at `start`. Its schema is empty and its thread id is 0. If memory
+/// allocation fails, `out` is unchanged.
 #[tactic(auto, using(rb_log_defs::proofs::Sizes::query_payload_length))]
 pub fn write_query(
     alloc: Global,
@@ -61,7 +66,8 @@ pub fn write_query(
 ) -> Result<(), NoMemory>
     requires { start + (33 + length text.now) < 2 ^ 32 }
     ensures ok { OnOk result (out.new.items ≡ out.old.items ++ query_event server text.now start) }
-    ensures size { OnOk result (length out.new.items ≡ length out.old.items + (33 + length text.now)) }
+    ensures size { OnOk result (length out.new.items
+        ≡ length out.old.items + (33 + length text.now)) }
     ensures err { OnErr result (out.new.items ≡ out.old.items) }
 {
     let payload = query_payload(alloc, text)?;
@@ -78,9 +84,9 @@ fn query_payload(alloc: Global, text: &[u8]) -> Result<Vec<u8>, NoMemory>
     Ok(payload)
 }
 
-/// Appends the rotate event, with which a full file of the log ends: 27 bytes and the name, of the server `server`,
-/// starting at `start`. The log goes on in the file `name`, at `position` there. Without memory the output stays as
-/// it was.
+/// Appends the rotate event that ends a full file of the log: 27 bytes and the name, by the server
+/// `server`, starting at `start`. The log continues in the file `name` at `position`. If memory
+/// allocation fails, `out` is unchanged.
 #[tactic(auto, using(rb_log_defs::proofs::Sizes::rotate_payload_length))]
 pub fn write_rotate(
     alloc: Global,
@@ -91,8 +97,10 @@ pub fn write_rotate(
     name: &[u8],
 ) -> Result<(), NoMemory>
     requires { start + (27 + length name.now) < 2 ^ 32 }
-    ensures ok { OnOk result (out.new.items ≡ out.old.items ++ rotate_event server position name.now start) }
-    ensures size { OnOk result (length out.new.items ≡ length out.old.items + (27 + length name.now)) }
+    ensures ok { OnOk result (out.new.items ≡ out.old.items
+        ++ rotate_event server position name.now start) }
+    ensures size { OnOk result (length out.new.items
+        ≡ length out.old.items + (27 + length name.now)) }
     ensures err { OnErr result (out.new.items ≡ out.old.items) }
 {
     let payload = rotate_payload(alloc, position, name)?;
@@ -111,8 +119,8 @@ fn rotate_payload(alloc: Global, position: u64, name: &[u8]) -> Result<Vec<u8>, 
     Ok(payload)
 }
 
-/// Appends the event that ends a transaction with the number `xid`: 27 bytes, of the server `server`, starting at
-/// `start`. Without memory the output stays as it was.
+/// Appends the XID event that ends the transaction with the number `xid`: 27 bytes, by the server
+/// `server`, starting at `start`. If memory allocation fails, `out` is unchanged.
 #[tactic(auto, using(rb_log_defs::proofs::Sizes::xid_payload_length))]
 pub fn write_xid(
     alloc: Global,

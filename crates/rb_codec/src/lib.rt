@@ -1,12 +1,16 @@
-//! The events of the binary log that every epoch and every file needs, as bytes, written and read: the header, the
-//! format description, BEGIN and other queries, rotations, the end of a transaction, and table maps; and the names of files.
+//! The events of the binary log that every epoch and every file needs, read and written: the
+//! header, the format description, BEGIN and other queries, rotations, the end of a transaction,
+//! and table maps. Also the names of files.
 //!
-//! Two contracts hold throughout. A writer appends exactly the bytes that the definitions of the log give for its
-//! event at that position, and without memory it leaves the output as it was. A reader answers exactly what the
-//! definitions of reading give for its bytes: the value, or the first field that is not there or is wrong, with its
-//! place. Those that make a value with a list in it may want memory instead. Below stand the values and the
-//! definitions of the log, whose laws say that what is written is read back; above stand the writers of epochs and of
-//! files, the readers of rows, which read field by field with [`Fields`], and the decoder.
+//! Two contracts hold throughout. A writer appends exactly the bytes that the definitions of the
+//! log give for its event at that position; if memory allocation fails, it leaves the output
+//! unchanged. A reader returns exactly the result that the definitions of reading give for its
+//! bytes: the value, or the first field that is missing or wrong, with its place. A reader whose
+//! value contains a list may return `NoMemory` instead.
+//!
+//! Below stand the values and the definitions of the log, with the laws that a written event is
+//! read as it was written. Above stand the writers of epochs and files, the decoder, and the
+//! readers of rows, which read field by field with [`Fields`].
 #![tactic(auto)]
 
 mod bitmap;
@@ -23,8 +27,8 @@ mod table_map;
 pub use bitmap::{all_clear, all_set};
 pub use event::write_event;
 pub use event_types::{
-    DELETE_ROWS_EVENT, FORMAT_DESCRIPTION_EVENT, QUERY_EVENT, ROTATE_EVENT, TABLE_MAP_EVENT,
-    UPDATE_ROWS_EVENT, WRITE_ROWS_EVENT, XID_EVENT, is_known,
+    DELETE_ROWS_EVENT, FORMAT_DESCRIPTION_EVENT, HEADER_SIZE, MAGIC, QUERY_EVENT, ROTATE_EVENT,
+    TABLE_MAP_EVENT, UPDATE_ROWS_EVENT, WRITE_ROWS_EVENT, XID_EVENT, is_known,
 };
 pub use fields::{Fields, check};
 pub use fixed::{write_format, write_query, write_rotate, write_xid};
@@ -34,6 +38,3 @@ pub use name::file_name;
 pub use rb_read_defs::{Header, QueryText, RotateTo};
 pub use read::{read_format, read_header, read_query, read_rotate, read_xid};
 pub use table_map::write_table_map;
-
-#[cfg(test)]
-mod tests;

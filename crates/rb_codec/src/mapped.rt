@@ -12,24 +12,30 @@ use byteorder::{ByteOrder, LittleEndian};
 use rb_base::{CodecFault, Column, Columns, Field, Items, Mapped, NoMemory};
 use std::alloc::Global;
 
-/// The type code of a column of numbers of 4 bytes.
+/// The type code of a column of 4-byte numbers.
 pub(crate) const LONG: u8 = 3;
 
-/// The type code of a column of numbers of 8 bytes.
+/// The type code of a column of 8-byte numbers.
 pub(crate) const LONGLONG: u8 = 8;
 
-/// The type code of a column of text.
+/// The type code of a text column.
 pub(crate) const VARCHAR: u8 = 15;
 
-/// Reads the payload of a TABLE_MAP event, after the row-event chapter of the binlog format: which table an id means
-/// in the rows events behind it. The flags, the bytes behind the two names, and what stands behind the null bitmap
-/// may have any value.
+/// Reads the payload of a TABLE_MAP event, which names the table of an id for the rows events after
+/// it. The flags, the bytes after the two names, and the bytes after the null bitmap may have any
+/// value.
 ///
-/// `Short` names the first field that does not end within the payload, by its place. `BadField` names one that is
-/// whole and wrong: `TableId` an id above 65535; `Columns` a count outside 1 to 64; `ColumnType` where a column is no
-/// LONG, LONGLONG or VARCHAR, where the first is no LONGLONG, or where `mysql.ndb_apply_status` has others than its
-/// own; `Metadata` a size other than two bytes for each VARCHAR; `Null` where a column may be NULL. Places are in
-/// bytes from the payload's start.
+/// `Short` has the place of the first field that does not end within the payload. `BadField` has
+/// the place of the first field that is complete and wrong:
+///
+/// - `TableId`: the id is above 65535;
+/// - `Columns`: the number of columns is outside 1 to 64;
+/// - `ColumnType`: a column is no LONG, LONGLONG or VARCHAR, the first one is no LONGLONG, or
+///   `mysql.ndb_apply_status` has types other than its own;
+/// - `Metadata`: the length is not two bytes for each VARCHAR;
+/// - `Null`: a column may be NULL.
+///
+/// Places are in bytes from the start of the payload.
 #[tactic(auto, unfolding(rb_read_defs::specs::Events::table_map))]
 pub fn read_table_map(alloc: Global, payload: &[u8]) -> Result<Mapped, CodecFault>
     ensures read { result ≢ Err CodecOutOfMemory → result ≡ answer_of (table_map payload.now 0) }
@@ -66,29 +72,29 @@ pub fn read_table_map(alloc: Global, payload: &[u8]) -> Result<Mapped, CodecFaul
     })
 }
 
-/// Whether a table can have so many columns.
+/// Returns whether a table can have this number of columns.
 fn is_count(count: u64) -> bool
     ensures { result ≡ (nat_le 1 count && nat_le count 64) }
 {
     1 <= count && count <= 64
 }
 
-/// Whether the table of these names is `mysql.ndb_apply_status`.
+/// Returns whether the table with these names is `mysql.ndb_apply_status`.
 pub fn is_status(schema: &[u8], name: &[u8]) -> bool
     ensures { result ≡ is_status schema.now name.now }
 {
     schema == b"mysql".as_slice() && name == b"ndb_apply_status".as_slice()
 }
 
-/// Whether a column can have this type: LONG, LONGLONG or VARCHAR.
+/// Returns whether this is the type of a column that is accepted: LONG, LONGLONG or VARCHAR.
 fn is_type(kind: u8) -> bool
     ensures { result ≡ is_type kind }
 {
     matches!(kind, LONG | LONGLONG | VARCHAR)
 }
 
-/// Whether the table of these names can have columns of these types: `mysql.ndb_apply_status` its own, another one a
-/// LONGLONG, its key, at first.
+/// Returns whether the table with these names can have columns of these types. The apply-status
+/// table has exactly its own types; any other table has a LONGLONG first, which is its key.
 fn are_types(schema: &[u8], name: &[u8], types: &[u8]) -> bool
     requires { 1 ≤ length types.now }
     ensures { result ≡ are_types schema.now name.now types.now }
@@ -99,21 +105,21 @@ fn are_types(schema: &[u8], name: &[u8], types: &[u8]) -> bool
     are_all_types(types) && types[0] == LONGLONG
 }
 
-/// Whether each column can have its type.
+/// Returns whether each of these types is accepted.
 fn are_all_types(types: &[u8]) -> bool
     ensures { result ≡ list_all is_type types.now }
 {
     types.iter().all(|kind| is_type(*kind))
 }
 
-/// How many bytes of metadata columns of these types have.
+/// Returns the length in bytes of the metadata of columns with these types.
 fn metadata_size(types: &[u8]) -> u64
     ensures { result ≡ metadata_size types.now }
 {
     2 * types.iter().filter(|kind| **kind == VARCHAR).count() as u64
 }
 
-/// The columns of these types with their metadata.
+/// Returns the columns with these types and this metadata.
 fn columns_from(alloc: Global, types: &[u8], metadata: &[u8]) -> Result<Columns, NoMemory>
     requires { metadata_size types.now ≤ length metadata.now }
     ensures { IfOk result (λ columns. columns ≡ columns_from types.now metadata.now) }
@@ -127,7 +133,7 @@ fn columns_from(alloc: Global, types: &[u8], metadata: &[u8]) -> Result<Columns,
     Ok(columns)
 }
 
-/// The column of this type, with its metadata in the first bytes.
+/// Returns the column with this type. Its metadata is at the start of `metadata`.
 fn column_from(kind: u8, metadata: &[u8]) -> Column
     requires { width_of kind ≤ length metadata.now }
     ensures { result ≡ column_from kind metadata.now }
@@ -139,7 +145,7 @@ fn column_from(kind: u8, metadata: &[u8]) -> Column
     }
 }
 
-/// How many bytes of metadata a column of this type has.
+/// Returns the length in bytes of the metadata of a column with this type.
 fn width_of(kind: u8) -> usize
     ensures { result ≡ width_of kind }
 {

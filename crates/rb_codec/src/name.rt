@@ -4,11 +4,11 @@ ghost use Rattle.rb_log_defs.specs.File.{base_name as base_of, file_name as name
 use rb_base::{NoMemory, SiteId};
 use std::alloc::Global;
 
-/// How many digits the number in a file's name has at least.
+/// The least number of digits in a file's name.
 const LEAST_DIGITS: usize = 6;
 
-/// The name of the binlog file of this number at a site: what the site's names begin with, and the number in at least six digits, as
-/// in `a-bin.000002`. It has at most 16 bytes.
+/// Returns the name of a site's binlog file: the site's base name and the file's number in at least
+/// six digits, as in `a-bin.000002`. A name has at most 16 bytes.
 #[tactic(auto, using(rb_log_defs::proofs::Sizes::name_length))]
 pub fn file_name(alloc: Global, site: SiteId, number: u32) -> Result<Vec<u8>, NoMemory>
     ensures name { IfOk result (λ name. name.items ≡ name_of site number) }
@@ -22,7 +22,7 @@ pub fn file_name(alloc: Global, site: SiteId, number: u32) -> Result<Vec<u8>, No
     Ok(name)
 }
 
-// What the names of a site's files begin with.
+// Returns the base name of a site's files.
 fn base_name(site: SiteId) -> &'static [u8]
     ensures { result.now ≡ base_of site }
 {

@@ -12,8 +12,9 @@ use byteorder::{ByteOrder, LittleEndian};
 use rb_base::{Column, Mapped, NoMemory, write_length};
 use std::alloc::Global;
 
-/// Appends the event that says which table the id `table.id` means in the rows events after it, of the server
-/// `server`, starting at `start`. Without memory the output stays as it was.
+/// Appends the table map event of `table`, by the server `server`, starting at `start`. It names
+/// the table of the id `table.id` for the rows events after it. If memory allocation fails, `out`
+/// is unchanged.
 #[tactic(auto, using(rb_log_defs::proofs::Sizes::event_length))]
 pub fn write_table_map(
     alloc: Global,
@@ -24,8 +25,10 @@ pub fn write_table_map(
 ) -> Result<(), NoMemory>
     requires mapped { CanBeMapped table.now }
     requires fits { start + length (table_map_event server table.now start) < 2 ^ 32 }
-    ensures ok { OnOk result (out.new.items ≡ out.old.items ++ table_map_event server table.now start) }
-    ensures size { OnOk result (length out.new.items ≡ length out.old.items + length (table_map_event server table.now start)) }
+    ensures ok { OnOk result (out.new.items ≡ out.old.items
+        ++ table_map_event server table.now start) }
+    ensures size { OnOk result (length out.new.items
+        ≡ length out.old.items + length (table_map_event server table.now start)) }
     ensures err { OnErr result (out.new.items ≡ out.old.items) }
 {
     let payload = table_map_payload(alloc, table)?;
@@ -51,7 +54,7 @@ fn table_map_payload(alloc: Global, table: &Mapped) -> Result<Vec<u8>, NoMemory>
     Ok(payload)
 }
 
-/// The table's id in 6 bytes, and the flags, none.
+/// Returns the table's id in 6 bytes, and flags 0.
 fn id_and_flags(id: u16) -> [u8; 8]
     ensures { result ≡ little_bytes 6 id ++ zeros 2 }
 {
@@ -60,10 +63,11 @@ fn id_and_flags(id: u16) -> [u8; 8]
     bytes
 }
 
-/// Appends a name between its length, in a byte, and a byte that is 0.
+/// Appends a name after its length, which takes one byte, and a zero byte after it.
 fn write_name(out: &mut Vec<u8>, name: &[u8]) -> Result<(), NoMemory>
     requires { length name.now < 256 }
-    ensures { OnOk result (out.new.items ≡ out.old.items ++ (length name.now ∷ (name.now ++ (0 ∷ [])))) }
+    ensures { OnOk result (out.new.items ≡ out.old.items
+        ++ (length name.now ∷ (name.now ++ (0 ∷ [])))) }
 {
     out.push(name.len() as u8)?;
     out.extend_from_slice(name)?;
@@ -71,7 +75,7 @@ fn write_name(out: &mut Vec<u8>, name: &[u8]) -> Result<(), NoMemory>
     Ok(())
 }
 
-/// The type code of a column: LONGLONG, LONG or VARCHAR.
+/// Returns the type code of a column: LONGLONG, LONG or VARCHAR.
 fn type_code(column: Column) -> u8
     ensures { result ≡ type_of column }
 {
@@ -93,7 +97,7 @@ fn types(alloc: Global, columns: &[Column]) -> Result<Vec<u8>, NoMemory>
     )
 }
 
-/// The metadata of all columns: for each VARCHAR its maximum in 2 bytes.
+/// Returns the metadata of all columns: for each VARCHAR its maximum length in 2 bytes.
 fn metadata(alloc: Global, columns: &[Column]) -> Result<Vec<u8>, NoMemory>
     requires { length columns.now ≤ 64 }
     ensures { IfOk result (λ metadata. metadata.items ≡ all_metadata columns.now) }

@@ -3,15 +3,15 @@ ghost use Rattle.rb_commit.specs.declared.fault.TxFault.TheVariants.{NoMemory as
 
 use rb_base::NoMemory;
 
-/// Why a client's transaction is not accepted. A number is that of the first operation against which something
-/// stands, from 0.
+/// Why a client's transaction is refused. Each number is that of the first bad operation, counted
+/// from 0.
 #[derive(Clone, Copy, Debug, PartialEq, Eq)]
 pub enum TxFault {
-    /// It names a row that an earlier operation of the transaction named.
+    /// The operation names a row that an earlier operation of the transaction named.
     RowTwice(u32),
-    /// It inserts a key that is there.
+    /// The operation inserts a key that has a row.
     KeyThere(u32),
-    /// It updates or removes a key that is absent.
+    /// The operation updates or removes a key that has no row.
     NoKey(u32),
     NoMemory,
 }

@@ -1,8 +1,9 @@
-//! How a site accepts a client's transaction: the clock that gives its epoch and its number, and the check that
-//! judges it whole and makes its changes.
+//! How a site accepts a client's transaction: the clock that gives its epoch and its number, and
+//! the check that judges it whole and returns its changes.
 //!
-//! Nothing here changes a site. [`prepare`] answers with all changes of a transaction or with the first reason
-//! against it, and [`Clock`] tells in which epoch they stand. The tables stand below this crate, and the site above.
+//! Nothing here changes a site. [`prepare`] returns all changes of a transaction, or the first
+//! reason to refuse it; [`Clock`] gives the epoch that they belong to. The tables stand below this
+//! crate, and the site above.
 #![tactic(auto)]
 
 mod clock;
@@ -12,6 +13,3 @@ mod transaction;
 pub use clock::Clock;
 pub use fault::TxFault;
 pub use transaction::prepare;
-
-#[cfg(test)]
-mod tests;

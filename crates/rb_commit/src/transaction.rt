@@ -11,12 +11,12 @@ use rb_store::Tables;
 use std::alloc::Global;
 use std::collections::BTreeSet;
 
-/// The changes of a client's transaction over these tables, by the site with this server id and under this number, in
-/// the order of its operations.
+/// Returns the changes of a client's transaction over these tables, in the order of its operations.
+/// `author` is the site's server id, and `transid` the transaction's number.
 ///
-/// It is judged whole before a change is made, and nothing changes by it. An `Err` tells the first operation against
-/// which something stands, and of one that names a row again only that; or that there is no memory. It takes time in
-/// proportion to the operations, times the logarithm of the rows.
+/// The transaction is judged whole, and nothing changes. An `Err` names the first bad operation; if
+/// that one names a row again, only this is reported. `NoMemory` says that memory ran out. The time
+/// is in proportion to the operations, times the logarithm of the rows.
 pub fn prepare(
     alloc: Global,
     tables: &Tables,
@@ -25,8 +25,10 @@ pub fn prepare(
     transid: u64,
 ) -> Result<Changes, TxFault>
     requires few { length operations.now < 2 ^ 32 }
-    ensures accepted { IfOk result (λ changes. (refusal_of (rows_in tables.now) operations.now ≡ None) × (changes ≡ changes_made (rows_in tables.now) author transid operations.now)) }
-    ensures refused { IfErr result (λ fault. fault ≢ TxFault.NoMemory → option_map fault_of (refusal_of (rows_in tables.now) operations.now) ≡ Some fault) }
+    ensures accepted { IfOk result (λ changes. (refusal_of (rows_in tables.now) operations.now
+        ≡ None) × (changes ≡ changes_made (rows_in tables.now) author transid operations.now)) }
+    ensures refused { IfErr result (λ fault. fault ≢ TxFault.NoMemory →
+        option_map fault_of (refusal_of (rows_in tables.now) operations.now) ≡ Some fault) }
 {
     let mut named = BTreeSet::new(alloc);
     let mut changes = Changes::new(alloc);
@@ -44,15 +46,19 @@ pub fn prepare(
     Ok(changes)
 }
 
-// Adds the row that an operation names. It answers whether it is new among them.
+// Adds the row that an operation names. Returns whether it was not there before.
 fn name_row(named: &mut BTreeSet<(u16, u64)>, operation: &ClientOp) -> Result<bool, NoMemory>
-    ensures new { IfOk result (λ is_new. is_new ≡ not (is_named named.old operation.now.table operation.now.key)) }
-    ensures named { OnOk result ((table key : ℕ) → is_named named.new table key ≡ (if (table == operation.now.table) && (key == operation.now.key) then true else is_named named.old table key)) }
+    ensures new { IfOk result (λ is_new. is_new
+        ≡ not (is_named named.old operation.now.table operation.now.key)) }
+    ensures named { OnOk result ((table key : ℕ) →
+        is_named named.new table key
+        ≡ (if (table == operation.now.table) &&
+        (key == operation.now.key) then true else is_named named.old table key)) }
 {
     Ok(named.insert((operation.table, operation.key))?)
 }
 
-// The row of a key.
+// Returns the row of a key.
 fn row_of(tables: &Tables, table: u16, key: u64) -> Option<&Row>
     ensures { option_copied result ≡ rows_in tables.now table key }
 {
@@ -62,7 +68,7 @@ fn row_of(tables: &Tables, table: u16, key: u64) -> Option<&Row>
     }
 }
 
-// Why an operation cannot be done over the row that is there.
+// Returns why an operation cannot be done over the key's row.
 fn fault_over(number: u32, op: Op, row: Option<&Row>) -> Option<TxFault>
     ensures { result ≡ option_map fault_of (refused_over number op (option_copied row.entry)) }
 {
@@ -73,7 +79,7 @@ fn fault_over(number: u32, op: Op, row: Option<&Row>) -> Option<TxFault>
     }
 }
 
-// The change that an operation makes over the row that is there.
+// Returns the change that an operation makes over the key's row.
 fn change_of(
     alloc: Global,
     row: Option<&Row>,
@@ -81,7 +87,8 @@ fn change_of(
     author: u32,
     transid: u64,
 ) -> Result<Change, NoMemory>
-    ensures { IfOk result (λ change. change ≡ change_over author transid (option_copied row.entry) operation.now) }
+    ensures { IfOk result (λ change. change
+        ≡ change_over author transid (option_copied row.entry) operation.now) }
 {
     let kind = kind_of(operation.op, row);
     Ok(Change {
@@ -95,7 +102,7 @@ fn change_of(
     })
 }
 
-// What an operation does to the row that is there.
+// Returns what an operation does to the key's row.
 fn kind_of(op: Op, row: Option<&Row>) -> Kind
     ensures { result ≡ kind_over op (option_copied row.entry) }
 {
@@ -106,7 +113,7 @@ fn kind_of(op: Op, row: Option<&Row>) -> Kind
     }
 }
 
-// The before image, which an insert has not.
+// Returns the before image; an insert has none.
 fn before_of(alloc: Global, kind: Kind, row: Option<&Row>) -> Result<Option<Row>, NoMemory>
     ensures { IfOk result (λ image. image ≡ before_image kind (option_copied row.entry)) }
 {
@@ -116,7 +123,7 @@ fn before_of(alloc: Global, kind: Kind, row: Option<&Row>) -> Result<Option<Row>
     }
 }
 
-// The after image, which a remove has not.
+// Returns the after image; a remove has none.
 fn after_of(alloc: Global, kind: Kind, row: &Option<Row>) -> Result<Option<Row>, NoMemory>
     ensures { IfOk result (λ image. image ≡ after_image kind row.now) }
 {

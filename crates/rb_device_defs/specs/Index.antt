@@ -1,4 +1,4 @@
--- File 0 as recovery may find it, and rows that can be read back from it.
+-- The images of file 0 that recovery may find, and rows that can be read from them.
 use Rattle.std.specs.Prelude.{◌≡◌, ◌≢◌, ℕ, ◌<◌, ◌^◌, ◌==◌, ◌&&◌, Bool, false, nat_lt, List, [], ◌∷◌, ◌++◌, length, get_or, None}
 use Rattle.std.specs.List.{flat_map, last_or}
 use Rattle.std.specs.List.Sorted.{IsNonDecreasingBy}
@@ -6,27 +6,28 @@ use Rattle.std.specs.Option.{option_map_or}
 use Rattle.rb_base.specs.declared.body.IndexRow.{IndexRow}
 use Rattle.rb_log_defs.specs.Index.{index_record}
 
--- how many bytes a record has with its gate
+-- the length in bytes of a record with its gate
 abbrev pub record_size : ℕ
 record_size = 65
 
--- the records of these rows, each behind an open gate
+-- the records of these rows, each after an open gate
 abbrev pub open_records : List IndexRow → List ℕ
 open_records rows = flat_map (λ row. 1 ∷ index_record row) rows
 
--- a record that recovery takes stands at the head of these bytes: its gate is open, and all of it is there and one byte more
+-- these bytes begin with a record that recovery accepts: its gate is open, all of the record is
+-- there, and at least one byte follows it
 abbrev pub begins_with_record : List ℕ → Bool
 begins_with_record bytes = (get_or bytes 0 0 == 1) && nat_lt record_size (length bytes)
 
--- what recovery may find in file 0 where the log has these rows: their records, a byte more where there is one, and behind them no
--- further record that it takes
+-- an image of file 0 for these rows: their records, at least one byte after them if there are rows,
+-- and no further record that recovery accepts
 pub record IsIndexImage (rows : List IndexRow) (file : List ℕ) : Type 0 where
-  pub behind : List ℕ
-  pub bytes : file ≡ open_records rows ++ behind
-  pub more : rows ≢ [] → 0 < length behind
-  pub ended : begins_with_record behind ≡ false
+  pub following : List ℕ
+  pub bytes : file ≡ open_records rows ++ following
+  pub more : rows ≢ [] → 0 < length following
+  pub ended : begins_with_record following ≡ false
 
--- a row whose numbers have room in their fields
+-- a row whose numbers fit into their fields
 pub record HasRoom (row : IndexRow) : Type 0 where
   pub epoch : row.epoch.0 < 2 ^ 64
   pub orig_epoch : row.orig_epoch.0 < 2 ^ 64
@@ -41,10 +42,10 @@ pub record HasRoom (row : IndexRow) : Type 0 where
   pub orig_server_id : row.orig_server_id < 2 ^ 32
   pub gci : row.gci < 2 ^ 32
 
--- the epochs of these rows never fall
+-- no row's epoch is below that of the row before it
 abbrev pub NeverFall : List IndexRow → Type 0
 NeverFall rows = IsNonDecreasingBy (λ row. row.epoch.0) rows
 
--- the epoch of the last one, or 0
+-- the epoch of the last row, or 0 if there is no row
 abbrev pub last_epoch_of : List IndexRow → ℕ
 last_epoch_of rows = option_map_or (λ row. row.epoch.0) (last_or None rows) 0

@@ -1,4 +1,4 @@
--- A file that a failed call left as it was.
+-- A file that a failed call left unchanged.
 use Rattle.std.proofs.Common.{ℕ, ◌≤◌, List, length, arith, refl}
 use Rattle.rb_disk.specs.Disk.{CutShort}
 

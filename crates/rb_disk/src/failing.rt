@@ -9,8 +9,9 @@ use crate::memory::MemoryDisk;
 use rb_base::{Failed, Numbers, OutFault};
 use std::marker::Model;
 
-/// A log device in memory that fails at chosen calls. One count from 0 numbers all its
-/// calls of `read`, `write_at`, `cut` and `sync`. A call that fails does nothing else. One that ends in want of memory has its number too.
+/// A log device in memory that fails at chosen calls. All calls of `read`, `write_at`, `cut` and
+/// `sync` share one count, which starts at 0. A call that fails changes no file. A call that runs
+/// out of memory also takes a number.
 #[derive(Debug, Drop)]
 pub struct FailingDisk {
     inner: MemoryDisk,
@@ -33,7 +34,7 @@ impl Model for FailingDisk {
 }
 
 impl FailingDisk {
-    /// A device with the bytes of `inner`. The calls whose numbers are in `failing` fail.
+    /// Creates a device with the files of `inner`. The calls whose numbers are in `failing` fail.
     pub fn new(inner: MemoryDisk, failing: Numbers) -> FailingDisk
         ensures { result ≡ record { files = inner; call = 0; failing = failing; faults = 0 } }
     {
@@ -45,7 +46,7 @@ impl FailingDisk {
         }
     }
 
-    /// The bytes of a file.
+    /// Returns the bytes of a file.
     pub fn file(&self, number: u32) -> &[u8]
         ensures { result.now ≡ slice_index_or self.now.files number [] }
     {
@@ -53,7 +54,7 @@ impl FailingDisk {
     }
 }
 
-// Counts a call, and its fault where its number is in the list. It answers whether the call fails.
+// Counts a call, and a fault if the call's number is in `failing`. Returns whether the call fails.
 fn fails_now(call: &mut u64, failing: &Numbers, faults: &mut u64) -> bool
     ensures fails { IsTrue result ↔ Contains failing.now call.old }
     ensures call { call.new ≡ min (call.old + 1) (2 ^ 64 - 1) }
@@ -89,7 +90,8 @@ impl LogDisk for FailingDisk {
 
     fn read(&mut self, file: u32, at: u64, into: &mut [u8]) -> Result<(), Failed>
         requires { at + length into.old ≤ length (slice_index_or self.old.files file []) }
-        ensures bytes { OnOk result (into.new ≡ slice_range (slice_index_or self.old.files file []) at (at + length into.old)) }
+        ensures bytes { OnOk result (into.new
+            ≡ slice_range (slice_index_or self.old.files file []) at (at + length into.old)) }
         ensures same { self.new.files ≡ self.old.files }
         ensures cause { HasCause self.old.faults self.new.faults result }
         ensures fails { IsErr result ↔ Contains self.old.failing self.old.call }
@@ -109,16 +111,22 @@ impl LogDisk for FailingDisk {
     fn write_at(&mut self, file: u32, at: u64, bytes: &[u8]) -> Result<(), OutFault>
         requires place { at ≤ length (slice_index_or self.old.files file []) }
         requires number { file < 2 ^ 32 - 1 }
-        ensures written { OnOk result (Holds (slice_index_or self.old.files file []) at bytes.now (slice_index_or self.new.files file [])) }
-        ensures torn { IsErrOf result OutFault.Failed → Torn at (length bytes.now) (slice_index_or self.old.files file []) (slice_index_or self.new.files file []) }
-        ensures memory { IsErrOf result OutFault.NoMemory → slice_index_or self.new.files file [] ≡ slice_index_or self.old.files file [] }
-        ensures others { (other : ℕ) → other ≢ file → slice_index_or self.new.files other [] ≡ slice_index_or self.old.files other [] }
+        ensures written { OnOk result (Holds (slice_index_or self.old.files file []) at bytes.now
+            (slice_index_or self.new.files file [])) }
+        ensures torn { IsErrOf result OutFault.Failed →
+            Torn at (length bytes.now) (slice_index_or self.old.files file [])
+            (slice_index_or self.new.files file []) }
+        ensures memory { IsErrOf result OutFault.NoMemory →
+            slice_index_or self.new.files file [] ≡ slice_index_or self.old.files file [] }
+        ensures others { (other : ℕ) → other ≢ file →
+            slice_index_or self.new.files other [] ≡ slice_index_or self.old.files other [] }
         ensures cause { HasOutCause self.old.faults self.new.faults result }
         ensures fails { IsErrOf result OutFault.Failed ↔ Contains self.old.failing self.old.call }
         ensures nothing { IsErrOf result OutFault.Failed → self.new.files ≡ self.old.files }
         ensures call { self.new.call ≡ min (self.old.call + 1) (2 ^ 64 - 1) }
         ensures failing { self.new.failing ≡ self.old.failing }
-        ensures faults { IsErrOf result OutFault.Failed → self.new.faults ≡ min (self.old.faults + 1) (2 ^ 64 - 1) }
+        ensures faults { IsErrOf result OutFault.Failed →
+            self.new.faults ≡ min (self.old.faults + 1) (2 ^ 64 - 1) }
         ensures no_fault { OnOk result (self.new.faults ≡ self.old.faults) }
     {
         if fails_now(&mut self.call, &self.failing, &mut self.faults) {
@@ -131,16 +139,22 @@ impl LogDisk for FailingDisk {
     #[tactic(auto, using(crate::proofs::Unchanged::not_cut))]
     fn cut(&mut self, file: u32, len: u64) -> Result<(), OutFault>
         requires { len ≤ length (slice_index_or self.old.files file []) }
-        ensures cut { OnOk result (slice_index_or self.new.files file [] ≡ take len (slice_index_or self.old.files file [])) }
-        ensures short { IsErrOf result OutFault.Failed → CutShort len (slice_index_or self.old.files file []) (slice_index_or self.new.files file []) }
-        ensures memory { IsErrOf result OutFault.NoMemory → slice_index_or self.new.files file [] ≡ slice_index_or self.old.files file [] }
-        ensures others { (other : ℕ) → other ≢ file → slice_index_or self.new.files other [] ≡ slice_index_or self.old.files other [] }
+        ensures cut { OnOk result (slice_index_or self.new.files file []
+            ≡ take len (slice_index_or self.old.files file [])) }
+        ensures short { IsErrOf result OutFault.Failed →
+            CutShort len (slice_index_or self.old.files file [])
+            (slice_index_or self.new.files file []) }
+        ensures memory { IsErrOf result OutFault.NoMemory →
+            slice_index_or self.new.files file [] ≡ slice_index_or self.old.files file [] }
+        ensures others { (other : ℕ) → other ≢ file →
+            slice_index_or self.new.files other [] ≡ slice_index_or self.old.files other [] }
         ensures cause { HasOutCause self.old.faults self.new.faults result }
         ensures fails { IsErrOf result OutFault.Failed ↔ Contains self.old.failing self.old.call }
         ensures nothing { IsErrOf result OutFault.Failed → self.new.files ≡ self.old.files }
         ensures call { self.new.call ≡ min (self.old.call + 1) (2 ^ 64 - 1) }
         ensures failing { self.new.failing ≡ self.old.failing }
-        ensures faults { IsErrOf result OutFault.Failed → self.new.faults ≡ min (self.old.faults + 1) (2 ^ 64 - 1) }
+        ensures faults { IsErrOf result OutFault.Failed →
+            self.new.faults ≡ min (self.old.faults + 1) (2 ^ 64 - 1) }
         ensures no_fault { OnOk result (self.new.faults ≡ self.old.faults) }
     {
         if fails_now(&mut self.call, &self.failing, &mut self.faults) {
@@ -156,7 +170,8 @@ impl LogDisk for FailingDisk {
         ensures fails { IsErrOf result OutFault.Failed ↔ Contains self.old.failing self.old.call }
         ensures call { self.new.call ≡ min (self.old.call + 1) (2 ^ 64 - 1) }
         ensures failing { self.new.failing ≡ self.old.failing }
-        ensures faults { IsErrOf result OutFault.Failed → self.new.faults ≡ min (self.old.faults + 1) (2 ^ 64 - 1) }
+        ensures faults { IsErrOf result OutFault.Failed →
+            self.new.faults ≡ min (self.old.faults + 1) (2 ^ 64 - 1) }
         ensures no_fault { OnOk result (self.new.faults ≡ self.old.faults) }
     {
         if fails_now(&mut self.call, &self.failing, &mut self.faults) {

@@ -5,12 +5,12 @@ ghost use Rattle.rb_disk.specs.declared.fault.DiskLogFault.TheVariants.{DiskFaul
 use rb_base::{Failed, NoMemory, OutFault};
 use std::alloc::{AllocError, AllocFailed};
 
-/// Why a log on a device did not do what it was told.
+/// The error of a log on a device.
 #[derive(Clone, Copy, Debug, PartialEq, Eq)]
 pub enum DiskLogFault {
     /// The device failed, and its count of faults rose.
     DiskFault,
-    /// Memory ran out, here or in the device.
+    /// Memory ran out, in this process or in the device.
     NoMemory,
 }
 

@@ -1,9 +1,11 @@
-//! The log device: numbered files of bytes that binlog files stand on, as the trait [`LogDisk`], a form in memory,
-//! and one that fails at chosen calls.
+//! The log device, which holds the binlog files and the index as numbered files of bytes: the trait
+//! [`LogDisk`], a form in memory, and a form that fails at chosen calls.
 //!
-//! The one contract: a call changes no file but the one that it names; a good one does there what it says, and one
-//! that failed, whose count of faults rose, left it as it was outside the range that it names. Only `rb_base` stands
-//! below this crate; the binlog files, the index, the injector, the site and the program stand above it.
+//! The one contract: a call changes only the file that it names. A call that succeeds does there
+//! what its clauses say. A call that fails leaves the file unchanged outside the range that it
+//! names. At `Failed` the count of faults has risen; at `NoMemory` it is unchanged. Only `rb_base`
+//! stands below this crate; the binlog files, the index, the injector, the site and the program
+//! stand above it.
 #![tactic(auto)]
 
 mod device;
@@ -17,6 +19,3 @@ pub use failing::FailingDisk;
 pub use fault::DiskLogFault;
 pub use lowest::lowest_file;
 pub use memory::MemoryDisk;
-
-#[cfg(test)]
-mod tests;

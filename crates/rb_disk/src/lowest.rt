@@ -3,7 +3,8 @@ ghost use Rattle.rb_disk.specs.Disk.{IsLowestFile};
 
 use crate::device::LogDisk;
 
-/// The lowest file that is not empty, with its length in bytes, or `None` where all are empty. It takes no memory.
+/// Returns the lowest file that is not empty and its length in bytes, or `None` if all files are
+/// empty. It allocates no memory.
 pub fn lowest_file<D: LogDisk>(disk: &D) -> Option<(u32, u64)>
     ensures held { IfSome result (λ found. IsLowestFile found.0 found.1 (D.seen disk.now)) }
     ensures empty { IsNone result → (file : ℕ) → D.seen disk.now file ≡ [] }

@@ -23,8 +23,8 @@ impl Model for File {
     ghost view = { λ file. file.held.items };
 }
 
-/// A log device in memory that never fails. A write takes its memory before it changes anything, and one at the
-/// end of a file costs the bytes written, not the file.
+/// A log device in memory that never fails. A write allocates before it changes anything. A write
+/// at the end of a file costs time in proportion to the bytes written, not to the file.
 #[derive(Debug, Drop)]
 pub struct MemoryDisk {
     alloc: Global,
@@ -42,7 +42,7 @@ impl Model for MemoryDisk {
 }
 
 impl MemoryDisk {
-    /// A device with no bytes.
+    /// Creates a device whose files are all empty.
     pub fn new(alloc: Global) -> MemoryDisk
         ensures { result ≡ [] }
     {
@@ -52,7 +52,7 @@ impl MemoryDisk {
         }
     }
 
-    /// The bytes of a file.
+    /// Returns the bytes of a file.
     pub fn file(&self, number: u32) -> &[u8]
         ensures { result.now ≡ slice_index_or self.now number [] }
     {
@@ -81,7 +81,8 @@ impl LogDisk for MemoryDisk {
 
     fn read(&mut self, file: u32, at: u64, into: &mut [u8]) -> Result<(), Failed>
         requires { at + length into.old ≤ length (slice_index_or self.old file []) }
-        ensures bytes { OnOk result (into.new ≡ slice_range (slice_index_or self.old file []) at (at + length into.old)) }
+        ensures bytes { OnOk result (into.new
+            ≡ slice_range (slice_index_or self.old file []) at (at + length into.old)) }
         ensures same { self.new ≡ self.old }
         ensures cause { HasCause 0 0 result }
         ensures never_fails { IsOk result }
@@ -94,10 +95,15 @@ impl LogDisk for MemoryDisk {
     fn write_at(&mut self, file: u32, at: u64, bytes: &[u8]) -> Result<(), OutFault>
         requires place { at ≤ length (slice_index_or self.old file []) }
         requires number { file < 2 ^ 32 - 1 }
-        ensures written { OnOk result (Holds (slice_index_or self.old file []) at bytes.now (slice_index_or self.new file [])) }
-        ensures torn { IsErrOf result OutFault.Failed → Torn at (length bytes.now) (slice_index_or self.old file []) (slice_index_or self.new file []) }
-        ensures memory { IsErrOf result OutFault.NoMemory → slice_index_or self.new file [] ≡ slice_index_or self.old file [] }
-        ensures others { (other : ℕ) → other ≢ file → slice_index_or self.new other [] ≡ slice_index_or self.old other [] }
+        ensures written { OnOk result (Holds (slice_index_or self.old file []) at bytes.now
+            (slice_index_or self.new file [])) }
+        ensures torn { IsErrOf result OutFault.Failed →
+            Torn at (length bytes.now) (slice_index_or self.old file [])
+            (slice_index_or self.new file []) }
+        ensures memory { IsErrOf result OutFault.NoMemory →
+            slice_index_or self.new file [] ≡ slice_index_or self.old file [] }
+        ensures others { (other : ℕ) → other ≢ file →
+            slice_index_or self.new other [] ≡ slice_index_or self.old other [] }
         ensures cause { HasOutCause 0 0 result }
         ensures never_fails { IsErrOf result OutFault.Failed → ⊥ }
     {
@@ -110,10 +116,14 @@ impl LogDisk for MemoryDisk {
 
     fn cut(&mut self, file: u32, len: u64) -> Result<(), OutFault>
         requires { len ≤ length (slice_index_or self.old file []) }
-        ensures cut { OnOk result (slice_index_or self.new file [] ≡ take len (slice_index_or self.old file [])) }
-        ensures short { IsErrOf result OutFault.Failed → CutShort len (slice_index_or self.old file []) (slice_index_or self.new file []) }
-        ensures memory { IsErrOf result OutFault.NoMemory → slice_index_or self.new file [] ≡ slice_index_or self.old file [] }
-        ensures others { (other : ℕ) → other ≢ file → slice_index_or self.new other [] ≡ slice_index_or self.old other [] }
+        ensures cut { OnOk result (slice_index_or self.new file []
+            ≡ take len (slice_index_or self.old file [])) }
+        ensures short { IsErrOf result OutFault.Failed →
+            CutShort len (slice_index_or self.old file []) (slice_index_or self.new file []) }
+        ensures memory { IsErrOf result OutFault.NoMemory →
+            slice_index_or self.new file [] ≡ slice_index_or self.old file [] }
+        ensures others { (other : ℕ) → other ≢ file →
+            slice_index_or self.new other [] ≡ slice_index_or self.old other [] }
         ensures cause { HasOutCause 0 0 result }
         ensures never_fails { IsOk result }
     {
@@ -138,12 +148,13 @@ impl LogDisk for MemoryDisk {
     }
 }
 
-// At least so many files, the new ones empty.
+// Appends empty files to `files` until there are at least `count`.
 fn make_files(alloc: Global, files: &mut Vec<File>, count: usize) -> Result<(), NoMemory>
     requires { length files.old.items < 2 ^ 32 × (count < 2 ^ 32) }
     ensures ok { OnOk result (count ≤ length files.new.items) }
     ensures few { length files.new.items < 2 ^ 32 }
-    ensures same { (other : ℕ) → slice_index_or files.new.items other [] ≡ slice_index_or files.old.items other [] }
+    ensures same { (other : ℕ) → slice_index_or files.new.items other []
+        ≡ slice_index_or files.old.items other [] }
 {
     while files.len() < count {
         files.push(File {
@@ -153,7 +164,7 @@ fn make_files(alloc: Global, files: &mut Vec<File>, count: usize) -> Result<(), 
     Ok(())
 }
 
-// Puts bytes over what is there, and past the end.
+// Overwrites the bytes of `held` from `at` on, and extends `held` if the write ends after its end.
 fn overwrite(held: &mut Vec<u8>, at: usize, bytes: &[u8]) -> Result<(), NoMemory>
     requires { at ≤ length held.old.items }
     ensures ok { OnOk result (Holds held.old.items at bytes.now held.new.items) }

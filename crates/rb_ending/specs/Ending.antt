@@ -1,4 +1,4 @@
--- What the process ends with, and the line that it writes on standard error before.
+-- The exit number of the process, and the line that it writes to standard error.
 use Rattle.std.specs.Prelude.{ℕ, List, [], ◌∷◌, ◌++◌, codes}
 use Rattle.std.specs.Fmt.{decimal}
 use Rattle.rb_base.specs.declared.site.SiteId.{SiteId}
@@ -13,7 +13,7 @@ use Rattle.rb_text_defs.specs.declared.script.ScriptKind.TheVariants as kinds
 use Rattle.rb_top.specs.declared.status.Status.{Status}
 use Rattle.rb_top.specs.declared.status.Status.TheVariants as statuses
 
--- the number that a shell sees
+-- the exit number that a shell sees
 abbrev pub exit_number_of : Status → ℕ
 exit_number_of statuses.Done = 0
 exit_number_of statuses.Usage = 2
@@ -29,7 +29,7 @@ exit_number_of (statuses.BadLog position field) = 9
 abbrev pub line_of : List ℕ → List ℕ
 line_of text = text ++ 10 ∷ []
 
--- the line on a device that is not empty
+-- the line for a device that is not empty
 abbrev pub not_empty_line : SiteId → (file size : ℕ) → List ℕ
 not_empty_line site file size =
     line_of (codes "not empty: site " ++ (letter_of site ++ (codes " file " ++ (decimal file ++ (codes " length " ++ decimal size)))))
@@ -48,13 +48,13 @@ name_of_limit limits.TxChanges = codes "TxChanges"
 name_of_limit limits.Changes = codes "Changes"
 name_of_limit limits.Work = codes "Work"
 
--- what is wrong with a script
+-- the kind of a refusal
 abbrev pub kind_of : ScriptKind → List ℕ
 kind_of kinds.Syntax = codes "syntax"
 kind_of kinds.Setup = codes "setup"
 kind_of (kinds.Limit limit) = codes "limit " ++ name_of_limit limit
 
--- the line on a script that is not legal
+-- the line for a script that is not legal
 abbrev pub bad_script_line : (line : ℕ) → ScriptKind → List ℕ
 bad_script_line line kind = line_of (codes "bad script: line " ++ (decimal line ++ (codes " " ++ kind_of kind)))
 
@@ -83,15 +83,15 @@ name_of_field fields.Status = codes "Status"
 name_of_field fields.AfterRotate = codes "AfterRotate"
 name_of_field fields.Limit = codes "Limit"
 
--- the line on a log with an event outside the grammar
+-- the line for a log with a bad event
 abbrev pub bad_log_line : (position : ℕ) → Field → List ℕ
 bad_log_line position field = line_of (codes "bad log: position " ++ (decimal position ++ (codes " field " ++ name_of_field field)))
 
--- the line on words outside the grammar: all words of the program
+-- the line for words outside the grammar: all words of the program
 unfoldable pub usage_line : List ℕ
 usage_line = line_of (codes "usage: run [--brief] | read | make SEED COUNT | live")
 
--- the line that tells a status, and nothing where nothing failed
+-- the line that names a status; empty if nothing failed
 abbrev pub fault_line_of : Status → List ℕ
 fault_line_of statuses.Done = []
 fault_line_of statuses.Usage = usage_line

@@ -11,7 +11,7 @@ use rb_script::{Limit, ScriptKind};
 use rb_top::Status;
 use std::alloc::Global;
 
-/// The number that the process ends with: 0 at `Done`, and another for each kind of failure.
+/// Returns the exit number of the process: 0 at `Done`, another one for each kind of failure.
 pub fn exit_number(status: Status) -> u8
     ensures { result ≡ exit_number_of status }
 {
@@ -28,16 +28,19 @@ pub fn exit_number(status: Status) -> u8
     }
 }
 
-/// Writes the line that tells a failure, and nothing at `Done`. At an `Err` a front of it may be written. Only the lines on a
-/// bad script, on a bad log and on a device that is not empty take memory.
-pub fn tell<O: Sink>(alloc: Global, out: &mut O, status: Status) -> Result<(), OutFault>
+/// Writes the line that names a failure; writes nothing at `Done`. At an `Err` a prefix of the line
+/// may be written. Only the lines for a bad script, a bad log and a device that is not empty
+/// allocate.
+pub fn print_status<O: Sink>(alloc: Global, out: &mut O, status: Status) -> Result<(), OutFault>
     ensures whole { OnOk result (Appends (O.held out.old) (O.held out.new) (fault_line_of status)) }
-    ensures part { OnErr result (GrowsByPrefix (O.held out.old) (O.held out.new) (fault_line_of status)) }
-    ensures failed { IsErrOf result OutFault.Failed → Rose (O.fault_count out.old) (O.fault_count out.new) }
+    ensures part { OnErr result (GrowsByPrefix (O.held out.old) (O.held out.new)
+        (fault_line_of status)) }
+    ensures failed { IsErrOf result OutFault.Failed →
+        Rose (O.fault_count out.old) (O.fault_count out.new) }
 {
     match status {
         Status::Done => write_all(out, b"")?,
-        Status::Usage => tell_usage(out)?,
+        Status::Usage => print_usage(out)?,
         Status::NotEmpty { site, file, length } => {
             let text = not_empty_line(alloc, site, file, length)?;
             write_all(out, text.as_slice())?;
@@ -59,12 +62,13 @@ pub fn tell<O: Sink>(alloc: Global, out: &mut O, status: Status) -> Result<(), O
     Ok(())
 }
 
-// Writes the line on words outside the grammar.
+// Writes the line for words outside the grammar.
 #[tactic(auto, unfolding(crate::specs::Ending::usage_line))]
-fn tell_usage<O: Sink>(out: &mut O) -> Result<(), OutFault>
+fn print_usage<O: Sink>(out: &mut O) -> Result<(), OutFault>
     ensures whole { OnOk result (Appends (O.held out.old) (O.held out.new) usage_line) }
     ensures part { OnErr result (GrowsByPrefix (O.held out.old) (O.held out.new) usage_line) }
-    ensures failed { IsErrOf result OutFault.Failed → Rose (O.fault_count out.old) (O.fault_count out.new) }
+    ensures failed { IsErrOf result OutFault.Failed →
+        Rose (O.fault_count out.old) (O.fault_count out.new) }
 {
     write_all(
         out,
@@ -73,7 +77,7 @@ fn tell_usage<O: Sink>(out: &mut O) -> Result<(), OutFault>
     Ok(())
 }
 
-// The line on a device that is not empty: this file of this site's has so many bytes.
+// Returns the line for a device that is not empty.
 fn not_empty_line(alloc: Global, site: SiteId, file: u32, length: u64) -> Result<Bytes, NoMemory>
     ensures { IfOk result (λ text. text ≡ not_empty_line site file length) }
 {
@@ -87,7 +91,7 @@ fn not_empty_line(alloc: Global, site: SiteId, file: u32, length: u64) -> Result
     Ok(Bytes::from_vec(text))
 }
 
-// The letter of a site.
+// Returns the letter of a site.
 fn letter(site: SiteId) -> &'static [u8]
     ensures { result.now ≡ letter_of site }
 {
@@ -97,7 +101,7 @@ fn letter(site: SiteId) -> &'static [u8]
     }
 }
 
-// The line on a script that is not legal at this line.
+// Returns the line for a script that is not legal.
 fn bad_script_line(alloc: Global, line: u32, kind: ScriptKind) -> Result<Bytes, NoMemory>
     ensures { IfOk result (λ text. text ≡ bad_script_line line kind) }
 {
@@ -109,7 +113,7 @@ fn bad_script_line(alloc: Global, line: u32, kind: ScriptKind) -> Result<Bytes, 
     Ok(Bytes::from_vec(text))
 }
 
-// The line on a log whose event at this position is outside the grammar in this field.
+// Returns the line for a log with a bad event.
 fn bad_log_line(alloc: Global, position: u64, field: Field) -> Result<Bytes, NoMemory>
     ensures { IfOk result (λ text. text ≡ bad_log_line position field) }
 {
@@ -121,7 +125,7 @@ fn bad_log_line(alloc: Global, position: u64, field: Field) -> Result<Bytes, NoM
     Ok(Bytes::from_vec(text))
 }
 
-// Appends what is wrong with a script.
+// Appends the kind of a refusal.
 fn put_kind(text: &mut Vec<u8>, kind: ScriptKind) -> Result<(), NoMemory>
     ensures { OnOk result (text.new.items ≡ text.old.items ++ kind_of kind) }
 {
@@ -136,7 +140,7 @@ fn put_kind(text: &mut Vec<u8>, kind: ScriptKind) -> Result<(), NoMemory>
     Ok(())
 }
 
-// The name of a limit.
+// Returns the name of a limit.
 fn limit_name(limit: Limit) -> &'static [u8]
     ensures { result.now ≡ name_of_limit limit }
 {
@@ -155,7 +159,7 @@ fn limit_name(limit: Limit) -> &'static [u8]
     }
 }
 
-// The name of a field.
+// Returns the name of a field.
 fn field_name(field: Field) -> &'static [u8]
     ensures { result.now ≡ name_of_field field }
 {

@@ -1,4 +1,4 @@
-use crate::ending::{exit_number, tell};
+use crate::ending::{exit_number, print_status};
 use rb_base::{Field, Numbers, OutFault, SiteId};
 use rb_io::{MemorySink, SteadySink};
 use rb_script::{Limit, ScriptKind};
@@ -78,25 +78,25 @@ const STATUSES: [(Status, u8, &[u8]); 13] = [
 fn statuses_end_so(rt: HostRuntime) -> Result<(), Fail> {
     for (status, number, line) in STATUSES {
         let mut out = SteadySink::new(rt.alloc());
-        tell(rt.alloc(), &mut out, status)?;
+        print_status(rt.alloc(), &mut out, status)?;
         assert_eq!(rt; exit_number(status), number, "at {status:?}");
         assert_eq!(rt; out.bytes(), line, "at {status:?}");
     }
     Ok(())
 }
 
-// This is told of line 3, where it is bad in this way.
-fn check(rt: &impl Abort, alloc: Global, kind: ScriptKind, told: &[u8]) -> Result<(), Fail> {
+// Line 3 is bad in this way, and this line names it.
+fn check(rt: &impl Abort, alloc: Global, kind: ScriptKind, line: &[u8]) -> Result<(), Fail> {
     let mut out = SteadySink::new(alloc);
     let status = Status::BadScript { line: 3, kind };
-    tell(alloc, &mut out, status)?;
+    print_status(alloc, &mut out, status)?;
     assert_eq!(rt; exit_number(status), 3, "at {kind:?}");
-    assert_eq!(rt; out.bytes(), told, "at {kind:?}");
+    assert_eq!(rt; out.bytes(), line, "at {kind:?}");
     Ok(())
 }
 
 #[test]
-fn bad_lines_are_told_so(rt: HostRuntime) -> Result<(), Fail> {
+fn bad_lines_are_named(rt: HostRuntime) -> Result<(), Fail> {
     let alloc = rt.alloc();
     check(
         &rt,
@@ -118,19 +118,19 @@ fn bad_lines_are_told_so(rt: HostRuntime) -> Result<(), Fail> {
         (Limit::Changes, b"bad script: line 3 limit Changes\n"),
         (Limit::Work, b"bad script: line 3 limit Work\n"),
     ];
-    for (limit, told) in cases {
-        check(&rt, alloc, ScriptKind::Limit(limit), told)?;
+    for (limit, line) in cases {
+        check(&rt, alloc, ScriptKind::Limit(limit), line)?;
     }
     Ok(())
 }
 
 #[test]
-fn a_failing_sink_is_told_nothing(rt: HostRuntime) -> Result<(), Fail> {
+fn a_failing_sink_gets_nothing(rt: HostRuntime) -> Result<(), Fail> {
     let alloc = rt.alloc();
     let failing = Numbers::from_vec(vec![in alloc; 0u64]?);
     let mut out = MemorySink::new(alloc, failing);
     assert_eq!(rt;
-        tell(alloc, &mut out, Status::ReadFault),
+        print_status(alloc, &mut out, Status::ReadFault),
         Err(OutFault::Failed)
     );
     assert_eq!(rt; out.bytes().len(), 0);

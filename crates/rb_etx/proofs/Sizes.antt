@@ -1,4 +1,4 @@
--- How many bytes an epoch has, wherever it starts.
+-- The length of an epoch, which does not depend on its position.
 use Rattle.std.proofs.Common.{◌≡◌, ◌≤◌, ℕ, ◌+◌, List, [], ◌∷◌, ◌++◌, length, map, codes, refl, arith, length-append}
 use Rattle.std.proofs.lemmas.List.Sums.{sum_by-cons}
 use Rattle.rb_base.specs.Length.{length_bytes}
@@ -47,12 +47,12 @@ status_map_length : length (table_map_payload status_table) ≡ 43
 unfolding table_map_payload length_bytes
 status_map_length = refl
 
--- events and what follows them
+-- events and the events that follow them
 both_length : (events later : List Placed) (start : ℕ) → length (joined_from start (events ++ later)) ≡ length (joined_from start events) + length (joined_from (start + length (joined_from start events)) later)
 both_length events later start =
     rw (joined_append start events later) (length-append (joined_from start events) (joined_from (start + length (joined_from start events)) later))
 
--- one event and what follows it
+-- one event and the events that follow it
 one_length : (event : Placed) (later : List Placed) (start : ℕ) → length (joined_from start (event ∷ later)) ≡ length (event start) + length (joined_from (start + length (event start)) later)
 one_length event later start = length-append (event start) (joined_from (start + length (event start)) later)
 

@@ -1,4 +1,4 @@
--- One table or one change more: what is left to write of an epoch.
+-- One more table or change is written: the events that remain of an epoch.
 use Rattle.std.proofs.Common.{◌≡◌, ◌<◌, ℕ, ◌+◌, ◌^◌, zero, suc, List, [], ◌∷◌, ◌++◌, length, get_or, drop, map, refl, sym, arith, add-one, drop-cons, subst}
 use Rattle.rb_base.specs.declared.schema.Mapped.{Mapped}
 use Rattle.rb_base.specs.declared.change.Change.{Change}
@@ -8,13 +8,13 @@ use Rattle.rb_log_defs.specs.Rows.{change_event, end_flag}
 use Rattle.rb_log_defs.specs.Epoch.{joined_from, change_events}
 use Rattle.rb_log_defs.proofs.Joined.{IsLeft, one_fits, more_fits}
 
--- a change with another after it does not end the statement
+-- a change with another one after it does not end the statement
 pub flag_of_more : (changes : List Change) (i : ℕ) → i < length changes → end_flag (drop i changes) ≡ 0
 flag_of_more [] i inside = absurd (omega arith)
 flag_of_more (change ∷ changes) zero inside = refl
 flag_of_more (change ∷ changes) (suc i) inside = flag_of_more changes i (omega arith)
 
--- the maps of the tables from one on are its map and those after it
+-- the maps of the tables from `i` on are the map of the table `i` and the maps after it
 pub table_left : (start server : ℕ) (written : List ℕ) (tables : List Mapped) (i : ℕ) (table : Mapped) (total : List ℕ) →
     i < length tables → table ≡ get_or tables i table → IsLeft start written (map (table_map_event server) (drop i tables)) total →
     IsLeft start written (table_map_event server table ∷ map (table_map_event server) (drop (i + 1) tables)) total
@@ -22,7 +22,7 @@ table_left start server written tables i table total inside is left =
     let first : drop i tables ≡ table ∷ drop (suc i) tables = subst (λ (x : Mapped). drop i tables ≡ x ∷ drop (suc i) tables) (sym is) (drop-cons tables i table inside) in
     rw add-one (subst (λ (xs : List Mapped). IsLeft start written (map (table_map_event server) xs) total) first left)
 
--- the events of the changes from one on are its event and those after it
+-- the events of the changes from `i` on are the event of the change `i` and the events after it
 pub change_left : (start server : ℕ) (written : List ℕ) (tables : List Mapped) (changes : List Change) (i : ℕ) (change : Change) (total : List ℕ) →
     i < length changes → change ≡ get_or changes i change → IsLeft start written (change_events server tables (drop i changes)) total →
     IsLeft start written (change_event server (columns_of tables change.table) change (end_flag (drop (i + 1) changes)) ∷ change_events server tables (drop (i + 1) changes)) total

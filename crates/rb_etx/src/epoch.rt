@@ -13,12 +13,15 @@ use rb_base::{Change, EpochBody, Mapped, NoMemory};
 use rb_codec::{write_query, write_table_map, write_xid};
 use std::alloc::Global;
 
-/// The most bytes that an epoch may have.
-const MOST_BYTES: u64 = 2147483647;
+/// The greatest length of an epoch in bytes.
+const MOST_BYTES: u64 = i32::MAX as u64;
 
-/// The bytes of an epoch as one transaction of the log, whose first event starts at `start`, in bytes from the
-/// file's start and below 2147483648. The epoch has at most 65536 tables, and fewer than 4294967296 changes.
-/// `TooLarge` names how many bytes it has, where they are more than 2147483647; `NoMemory` where they find no room.
+/// Returns the bytes of an epoch as one transaction of the log, whose first event is at `start`, in
+/// bytes from the start of the file and below 2147483648. The epoch has at most 65536 tables and
+/// fewer than 4294967296 changes.
+///
+/// Returns `TooLarge` with the length of the epoch if that is more than 2147483647 bytes, and
+/// `NoMemory` if the bytes cannot be allocated.
 pub fn encode_epoch(alloc: Global, body: &EpochBody, start: u32) -> Result<Vec<u8>, EncodeFault>
     requires writable { CanBeWritten body.now }
     requires few_tables { length body.now.tables ≤ 65536 }
@@ -26,7 +29,8 @@ pub fn encode_epoch(alloc: Global, body: &EpochBody, start: u32) -> Result<Vec<u
     requires start { start < 2147483648 }
     ensures ok { IfOk result (λ bytes. bytes.items ≡ epoch_bytes body.now start) }
     ensures small { OnOk result (length (epoch_bytes body.now start) ≤ 2147483647) }
-    ensures too_large { (n : ℕ) → result ≡ Err (EncodeFault.TooLarge n) → (n ≡ length (epoch_bytes body.now start)) × (2147483647 < n) }
+    ensures too_large { (n : ℕ) → result ≡ Err (EncodeFault.TooLarge n) →
+        (n ≡ length (epoch_bytes body.now start)) × (2147483647 < n) }
 {
     let size = size_of_epoch(body);
     if size > MOST_BYTES {
@@ -37,8 +41,8 @@ pub fn encode_epoch(alloc: Global, body: &EpochBody, start: u32) -> Result<Vec<u
     Ok(bytes)
 }
 
-/// Appends an epoch to bytes that begin at `start`, in bytes from the file's start. Nothing is said of the bytes where
-/// there was no memory.
+/// Appends an epoch to `out`, whose first byte is at `start`, in bytes from the start of the file.
+/// If memory allocation fails, the content of `out` is unspecified.
 pub fn write_epoch(
     alloc: Global,
     out: &mut Vec<u8>,
@@ -46,8 +50,10 @@ pub fn write_epoch(
     start: u32,
 ) -> Result<(), NoMemory>
     requires writable { CanBeWritten body.now }
-    requires fits { start + (length out.old.items + length (epoch_bytes body.now (start + length out.old.items))) < 2 ^ 32 }
-    ensures { OnOk result (out.new.items ≡ out.old.items ++ epoch_bytes body.now (start + length out.old.items)) }
+    requires fits { start + (length out.old.items + length
+        (epoch_bytes body.now (start + length out.old.items))) < 2 ^ 32 }
+    ensures { OnOk result (out.new.items ≡ out.old.items
+        ++ epoch_bytes body.now (start + length out.old.items)) }
 {
     let (server, tables) = (body.server, body.tables.as_slice());
     let at = position(start, out);
@@ -65,7 +71,7 @@ pub fn write_epoch(
     Ok(())
 }
 
-/// Where the next event starts, behind bytes that begin at `start`.
+/// Returns the position of the next event, if the bytes of `out` begin at `start`.
 fn position(start: u32, out: &Vec<u8>) -> u32
     requires { start + length out.now.items < 2 ^ 32 }
     ensures { result ≡ start + length out.now.items }
@@ -73,7 +79,7 @@ fn position(start: u32, out: &Vec<u8>) -> u32
     start + out.len() as u32
 }
 
-/// Appends the maps of these tables, where the output begins at `start`.
+/// Appends the table maps of these tables to `out`, whose bytes begin at `start`.
 fn write_tables(
     alloc: Global,
     out: &mut Vec<u8>,
@@ -82,8 +88,11 @@ fn write_tables(
     tables: &[Mapped],
 ) -> Result<(), NoMemory>
     requires mapped { All CanBeMapped tables.now }
-    requires fits { start + (length out.old.items + length (joined_from (start + length out.old.items) (map (table_map_event server) tables.now))) < 2 ^ 32 }
-    ensures { OnOk result (out.new.items ≡ out.old.items ++ joined_from (start + length out.old.items) (map (table_map_event server) tables.now)) }
+    requires fits { start + (length out.old.items + length
+        (joined_from (start + length out.old.items)
+        (map (table_map_event server) tables.now))) < 2 ^ 32 }
+    ensures { OnOk result (out.new.items ≡ out.old.items
+        ++ joined_from (start + length out.old.items) (map (table_map_event server) tables.now)) }
 {
     for table in tables {
         let at = position(start, out);
@@ -92,7 +101,8 @@ fn write_tables(
     Ok(())
 }
 
-/// Appends a rows event for each change, the last one flagged, where the output begins at `start`.
+/// Appends a rows event for each change to `out`, whose bytes begin at `start`. The last event
+/// carries the flag that ends the statement.
 fn write_changes(
     alloc: Global,
     out: &mut Vec<u8>,
@@ -102,9 +112,14 @@ fn write_changes(
     changes: &[Change],
 ) -> Result<(), NoMemory>
     requires fit { All (λ change. Fits (columns_of tables.now change.table) change) changes.now }
-    requires mapped { All (λ change. (0 < length (columns_of tables.now change.table)) × (length (columns_of tables.now change.table) ≤ 64)) changes.now }
-    requires fits { start + (length out.old.items + length (joined_from (start + length out.old.items) (change_events server tables.now changes.now))) < 2 ^ 32 }
-    ensures { OnOk result (out.new.items ≡ out.old.items ++ joined_from (start + length out.old.items) (change_events server tables.now changes.now)) }
+    requires mapped { All (λ change. (0 < length (columns_of tables.now change.table))
+        × (length (columns_of tables.now change.table) ≤ 64)) changes.now }
+    requires fits { start + (length out.old.items + length
+        (joined_from (start + length out.old.items)
+        (change_events server tables.now changes.now))) < 2 ^ 32 }
+    ensures { OnOk result (out.new.items ≡ out.old.items
+        ++ joined_from (start + length out.old.items)
+        (change_events server tables.now changes.now)) }
 {
     for index in 0..changes.len() {
         let change = &changes[index];
@@ -116,7 +131,7 @@ fn write_changes(
     Ok(())
 }
 
-/// Whether no change stands behind this one.
+/// Returns whether this is the last change.
 fn is_last(changes: &[Change], index: usize) -> bool
     requires { index < length changes.now }
     ensures { flag_of result ≡ end_flag (drop (index + 1) changes.now) }

@@ -5,16 +5,15 @@ ghost use Rattle.rb_log_defs.specs.Fits.{Fits};
 ghost use Rattle.rb_rows.specs.Written.{flag_of};
 
 use rb_base::{Change, EpochBody, Kind, Mapped, NoMemory};
-use rb_codec::{Header, write_header};
+use rb_codec::{
+    DELETE_ROWS_EVENT, HEADER_SIZE, Header, UPDATE_ROWS_EVENT, WRITE_ROWS_EVENT, write_header,
+};
 use rb_rows::{size_of_rows, size_of_status, write_rows, write_status};
 use std::alloc::Global;
 use std::slice::from_ref;
 
-/// The size of a header, in bytes.
-pub(crate) const HEADER_SIZE: u32 = 19;
-
-/// Appends the rows event of a change of this table, starting at `start`. `last` sets the flag that ends the
-/// statement.
+/// Appends the rows event of a change of this table, starting at `start`. `last` sets the flag that
+/// ends the statement.
 #[tactic(auto, unfolding(rb_log_defs::specs::Event::event_bytes), using(crate::proofs::Payloads::change_written))]
 pub(crate) fn write_change(
     alloc: Global,
@@ -28,8 +27,10 @@ pub(crate) fn write_change(
     requires change { Fits table.now.columns change.now }
     requires few { length table.now.columns ≤ 64 }
     requires named { change.now.table ≡ table.now.id }
-    requires fits { start + length (change_event server table.now.columns change.now (flag_of last) start) < 2 ^ 32 }
-    ensures { OnOk result (out.new.items ≡ out.old.items ++ change_event server table.now.columns change.now (flag_of last) start) }
+    requires fits { start + length
+        (change_event server table.now.columns change.now (flag_of last) start) < 2 ^ 32 }
+    ensures { OnOk result (out.new.items ≡ out.old.items
+        ++ change_event server table.now.columns change.now (flag_of last) start) }
 {
     let changes = from_ref(change);
     let size = size_of_rows(table, changes);
@@ -55,7 +56,7 @@ pub(crate) fn write_status_event(
     Ok(())
 }
 
-/// Appends the header of an event with a payload of so many bytes.
+/// Appends the header of an event whose payload has `payload` bytes.
 fn write_head(
     alloc: Global,
     out: &mut Vec<u8>,
@@ -65,9 +66,10 @@ fn write_head(
     payload: u64,
 ) -> Result<(), NoMemory>
     requires { start + (19 + payload) < 2 ^ 32 }
-    ensures { OnOk result (out.new.items ≡ out.old.items ++ header_bytes kind server (19 + payload) (start + (19 + payload)) 0) }
+    ensures { OnOk result (out.new.items ≡ out.old.items
+        ++ header_bytes kind server (19 + payload) (start + (19 + payload)) 0) }
 {
-    let size = HEADER_SIZE + payload as u32;
+    let size = HEADER_SIZE as u32 + payload as u32;
     let header = Header {
         kind,
         server,
@@ -79,13 +81,13 @@ fn write_head(
     Ok(())
 }
 
-/// The type code of a rows event.
+/// Returns the type code of a rows event.
 fn rows_type(kind: Kind) -> u8
     ensures { result ≡ rows_type kind }
 {
     match kind {
-        Kind::Insert => 30,
-        Kind::Update => 31,
-        Kind::Remove => 32,
+        Kind::Insert => WRITE_ROWS_EVENT,
+        Kind::Update => UPDATE_ROWS_EVENT,
+        Kind::Remove => DELETE_ROWS_EVENT,
     }
 }

@@ -4,10 +4,10 @@ ghost use Rattle.rb_etx.specs.declared.fault.EncodeFault.TheVariants.{NoMemory a
 use rb_base::NoMemory;
 use std::alloc::AllocError;
 
-/// Why an epoch could not be encoded.
+/// The error of encoding an epoch.
 #[derive(Clone, Copy, Debug, PartialEq, Eq)]
 pub enum EncodeFault {
-    /// Its bytes, this many, are more than 2147483647.
+    /// The epoch's length, which is this number of bytes, is more than 2147483647.
     TooLarge(u64),
     NoMemory,
 }

@@ -1,9 +1,10 @@
-//! An epoch as one transaction of the binary log: BEGIN, the maps of its tables, the apply-status rows, a rows
-//! event for each change, and the XID.
+//! An epoch as one transaction of the binary log: BEGIN, the maps of its tables, the apply-status
+//! rows, a rows event for each change, and the XID.
 //!
-//! [`encode_epoch`] gives exactly the bytes that the definitions of the log give for the epoch at that position, or
-//! says that they are too many; [`size_of_epoch`] counts them. Below stand the values, the definitions of the log, the
-//! writers of its single events and those of the payloads of rows events; above stands the injector.
+//! [`encode_epoch`] returns exactly the bytes that the definitions of the log give for the epoch at
+//! that position, or an error if there are too many; [`size_of_epoch`] returns their number. Below
+//! stand the values, the definitions of the log, the writers of single events, and the writers of
+//! the payloads of rows events. Above stands the injector.
 #![tactic(auto)]
 
 mod epoch;
@@ -15,6 +16,3 @@ mod table;
 pub use epoch::{encode_epoch, write_epoch};
 pub use fault::EncodeFault;
 pub use size::size_of_epoch;
-
-#[cfg(test)]
-mod tests;

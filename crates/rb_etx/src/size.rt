@@ -4,27 +4,28 @@ ghost use Rattle.rb_log_defs.specs.Epoch.{epoch_bytes};
 ghost use Rattle.rb_log_defs.specs.Fits.{CanBeMapped, Fits, CanBeWritten};
 ghost use Rattle.rb_etx.specs.Size.{map_size, maps_size, change_size, changes_size};
 
-use crate::event::HEADER_SIZE;
 use crate::table::table_of;
 use rb_base::{Change, Column, EpochBody, Mapped};
+use rb_codec::HEADER_SIZE;
 use rb_rows::{size_of_rows, size_of_status};
 use std::slice::from_ref;
 
-/// The size of BEGIN, in bytes.
+/// The length of the BEGIN event in bytes.
 const BEGIN_SIZE: u64 = 38;
 
-/// The size of the map of the apply-status table.
+/// The length of the apply-status table's map in bytes.
 const STATUS_MAP_SIZE: u64 = 62;
 
-/// The size of the event that ends the transaction.
+/// The length of the XID event in bytes.
 const XID_SIZE: u64 = 27;
 
-/// The size of a table map without its names, its columns, their metadata and their bitmap: its header, id and flags,
-/// the lengths and ends of both names, and the numbers of columns and of bytes of metadata.
+/// The length in bytes of a table map without its names, its columns, their metadata and the
+/// bitmap: the header, the id and the flags, the lengths and ends of both names, the number of
+/// columns, and the length of the metadata.
 const MAP_SIZE: u64 = 33;
 
-/// How many bytes an epoch has in the log, wherever it starts. It has at most 65536 tables, and fewer than 4294967296
-/// changes.
+/// Returns the length of an epoch in the log in bytes, which does not depend on the position. The
+/// epoch has at most 65536 tables and fewer than 4294967296 changes.
 #[tactic(auto, using(crate::proofs::Sizes::epoch_length))]
 pub fn size_of_epoch(body: &EpochBody) -> u64
     requires writable { CanBeWritten body.now }
@@ -34,12 +35,12 @@ pub fn size_of_epoch(body: &EpochBody) -> u64
 {
     let tables = body.tables.as_slice();
     let maps = maps_size(tables);
-    let status = u64::from(HEADER_SIZE) + size_of_status(body);
+    let status = HEADER_SIZE as u64 + size_of_status(body);
     let changes = changes_size(tables, body.changes.as_slice());
     BEGIN_SIZE + STATUS_MAP_SIZE + maps + status + changes + XID_SIZE
 }
 
-/// The size of the maps of these tables.
+/// Returns the length in bytes of the table maps of these tables.
 fn maps_size(tables: &[Mapped]) -> u64
     requires mapped { All CanBeMapped tables.now }
     requires few { length tables.now ≤ 65536 }
@@ -53,7 +54,7 @@ fn maps_size(tables: &[Mapped]) -> u64
     size
 }
 
-/// The size of the map of a table.
+/// Returns the length in bytes of a table's map.
 #[tactic(auto, using(crate::proofs::Sizes::map_length, rb_log_defs::proofs::Sizes::metadata_bound))]
 fn map_size(table: &Mapped) -> u64
     requires { CanBeMapped table.now }
@@ -66,7 +67,7 @@ fn map_size(table: &Mapped) -> u64
     MAP_SIZE + (names + columns.len() + bitmap) as u64 + metadata_size(columns)
 }
 
-/// The size of the metadata of these columns: for each VARCHAR its maximum in 2 bytes.
+/// Returns the length in bytes of the metadata of these columns: for each VARCHAR 2 bytes.
 fn metadata_size(columns: &[Column]) -> u64
     requires { length columns.now ≤ 64 }
     ensures size { result ≡ length (all_metadata columns.now) }
@@ -81,10 +82,11 @@ fn metadata_size(columns: &[Column]) -> u64
     size
 }
 
-/// The size of the rows events of these changes.
+/// Returns the length in bytes of the rows events of these changes.
 fn changes_size(tables: &[Mapped], changes: &[Change]) -> u64
     requires fit { All (λ change. Fits (columns_of tables.now change.table) change) changes.now }
-    requires mapped { All (λ change. (0 < length (columns_of tables.now change.table)) × (length (columns_of tables.now change.table) ≤ 64)) changes.now }
+    requires mapped { All (λ change. (0 < length (columns_of tables.now change.table))
+        × (length (columns_of tables.now change.table) ≤ 64)) changes.now }
     requires few { length changes.now < 4294967296 }
     ensures size { result ≡ changes_size tables.now changes.now }
     ensures most { result ≤ 8388807 * 4294967296 }
@@ -96,7 +98,7 @@ fn changes_size(tables: &[Mapped], changes: &[Change]) -> u64
     size
 }
 
-/// The size of the rows event of a change.
+/// Returns the length in bytes of the rows event of a change.
 #[tactic(auto, using(crate::proofs::Payloads::change_length))]
 fn change_size(tables: &[Mapped], change: &Change) -> u64
     requires fits { Fits (columns_of tables.now change.now.table) change.now }
@@ -106,5 +108,5 @@ fn change_size(tables: &[Mapped], change: &Change) -> u64
     ensures most { result ≤ 8388807 }
 {
     let table = table_of(tables, change.table);
-    u64::from(HEADER_SIZE) + size_of_rows(table, from_ref(change))
+    HEADER_SIZE as u64 + size_of_rows(table, from_ref(change))
 }

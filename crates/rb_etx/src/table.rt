@@ -4,7 +4,8 @@ ghost use Rattle.rb_log_defs.specs.Table.{columns_of, status_table};
 use rb_base::{Column, Items, Mapped, NoMemory};
 use std::alloc::Global;
 
-/// The table `mysql.ndb_apply_status`, whose id is 0: server id, epoch, log name, start and end position.
+/// Returns the table `mysql.ndb_apply_status`, with id 0 and the columns server id, epoch, log
+/// name, start position and end position.
 pub(crate) fn status_table(alloc: Global) -> Result<Mapped, NoMemory>
     ensures { IfOk result (λ table. table ≡ status_table) }
 {
@@ -23,7 +24,7 @@ pub(crate) fn status_table(alloc: Global) -> Result<Mapped, NoMemory>
     })
 }
 
-/// The table with an id, which is one of these.
+/// Returns the table with this id, which one of these tables has.
 pub(crate) fn table_of(tables: &[Mapped], id: u16) -> &Mapped
     requires { 0 < length (columns_of tables.now id) }
     ensures columns { result.now.columns ≡ columns_of tables.now id }

@@ -10,7 +10,7 @@ use Rattle.rb_base.specs.declared.message.Message.{Message}
 use Rattle.rb_base.specs.declared.message.Message.TheVariants.{Part, Done}
 use Rattle.rb_journal_defs.specs.Transaction.{first_of}
 use Rattle.rb_message_defs.specs.Message.{epoch_in}
-use Rattle.rb_message_defs.specs.Received.{change_for, count_for, part_in, count_in, epoch_behind, AreChained}
+use Rattle.rb_message_defs.specs.Received.{change_for, count_for, part_in, count_in, epoch_following, AreChained}
 use Rattle.rb_evbuf.proofs.Feeding.{head_of}
 
 pub lt_or_le : (a b : ℕ) → (a < b) ⊎ (b ≤ a)
@@ -62,28 +62,28 @@ count_of_epoch (m ∷ ms) e b c same = go (count_in ms e b) refl same (λ more. 
     go None q same more = record { message = m; there = head_of m ms; is = here m same }
     go (Some d) q same more = later_one m ms e (more (q ∙ same))
 
--- a message of an epoch behind the last taken one is at or above the next
-not_between : (received : List Message) (last next : ℕ) (m : Message) → ((bucket : ℕ) (epoch prev : Epoch) (count : ℕ) → Contains received (Done bucket epoch prev count) → prev.0 < epoch_in m → epoch.0 ≤ epoch_in m) → first_of (filter_map (epoch_behind last) received) ≡ Some next → last < epoch_in m → next ≤ epoch_in m
+-- a message of an epoch after the last taken one is at or above the next
+not_between : (received : List Message) (last next : ℕ) (m : Message) → ((bucket : ℕ) (epoch prev : Epoch) (count : ℕ) → Contains received (Done bucket epoch prev count) → prev.0 < epoch_in m → epoch.0 ≤ epoch_in m) → first_of (filter_map (epoch_following last) received) ≡ Some next → last < epoch_in m → next ≤ epoch_in m
 not_between [] last next m chained same above = absurd (let g : None ≡ Some next = same in cc)
 not_between (Part b own p change ∷ older) last next m chained same above =
     not_between older last next m (λ bucket epoch prev count there. chained bucket epoch prev count (further (Part b own p change) (Done bucket epoch prev count) older there)) same above
 not_between (Done b own prev count ∷ older) last next m chained same above =
     go (prev.0 == last) refl same (λ rest. not_between older last next m (λ bucket epoch before n there. chained bucket epoch before n (further (Done b own prev count) (Done bucket epoch before n) older there)) rest above)
   where
-    go : (x : Bool) → (prev.0 == last) ≡ x → first_of (cons_option (cond x (Some own.0) None) (filter_map (epoch_behind last) older)) ≡ Some next → (first_of (filter_map (epoch_behind last) older) ≡ Some next → next ≤ epoch_in m) → next ≤ epoch_in m
+    go : (x : Bool) → (prev.0 == last) ≡ x → first_of (cons_option (cond x (Some own.0) None) (filter_map (epoch_following last) older)) ≡ Some next → (first_of (filter_map (epoch_following last) older) ≡ Some next → next ≤ epoch_in m) → next ≤ epoch_in m
     go true q same more =
         let p : prev.0 ≡ last = eqb-true prev.0 last q in
         let n : own.0 ≡ next = (let g : Some own.0 ≡ Some next = same in cc) in
         let l : own.0 ≤ epoch_in m = chained b own prev count (head_of (Done b own prev count) older) (omega arith) in omega arith
     go false q same more = more same
 
-of_epoch_not_between : (received : List Message) (last next epoch : ℕ) → AreChained received → first_of (filter_map (epoch_behind last) received) ≡ Some next → last < epoch → IsOfEpoch received epoch → next ≤ epoch
+of_epoch_not_between : (received : List Message) (last next epoch : ℕ) → AreChained received → first_of (filter_map (epoch_following last) received) ≡ Some next → last < epoch → IsOfEpoch received epoch → next ≤ epoch
 of_epoch_not_between received last next epoch chained same above of =
     let l : next ≤ epoch_in of.message = not_between received last next of.message (λ bucket own prev count there. (chained bucket own prev count there).1 of.message of.there) same (let q = of.is in omega arith) in
     let q = of.is in omega arith
 
 -- no change is between
-pub no_part_between : (received : List Message) (last next epoch bucket place : ℕ) → AreChained received → first_of (filter_map (epoch_behind last) received) ≡ Some next → last < epoch → epoch < next → part_in received epoch bucket place ≡ None
+pub no_part_between : (received : List Message) (last next epoch bucket place : ℕ) → AreChained received → first_of (filter_map (epoch_following last) received) ≡ Some next → last < epoch → epoch < next → part_in received epoch bucket place ≡ None
 no_part_between received last next epoch bucket place chained same above below = go (part_in received epoch bucket place) refl
   where
     go : (o : Option Change) → part_in received epoch bucket place ≡ o → part_in received epoch bucket place ≡ None
@@ -91,7 +91,7 @@ no_part_between received last next epoch bucket place chained same above below =
     go (Some change) q = let l : next ≤ epoch = of_epoch_not_between received last next epoch chained same above (part_of_epoch received epoch bucket place change q) in absurd (omega arith)
 
 -- and no count
-pub no_count_between : (received : List Message) (last next epoch bucket : ℕ) → AreChained received → first_of (filter_map (epoch_behind last) received) ≡ Some next → last < epoch → epoch < next → count_in received epoch bucket ≡ None
+pub no_count_between : (received : List Message) (last next epoch bucket : ℕ) → AreChained received → first_of (filter_map (epoch_following last) received) ≡ Some next → last < epoch → epoch < next → count_in received epoch bucket ≡ None
 no_count_between received last next epoch bucket chained same above below = go (count_in received epoch bucket) refl
   where
     go : (o : Option ℕ) → count_in received epoch bucket ≡ o → count_in received epoch bucket ≡ None

@@ -12,7 +12,7 @@ use Rattle.std.proofs.Math.Seq.{take-suc}
 use Rattle.rb_journal_defs.specs.Body.{numbers_below}
 use Rattle.rb_journal_defs.specs.Transaction.{first_of}
 
--- the lowest number below a count at which nothing is held, where it is n if it is below
+-- the lowest number below a count at which nothing is held; it is n if n is below the count
 pub find_lowest : {X : Type 0} (held : ℕ → Option X) (n : ℕ) → ((p : ℕ) → p < n → is_none (held p) ≡ false) → is_none (held n) ≡ true →
     (count : ℕ) → find (λ p. is_none (held p)) (numbers_below count) ≡ cond (nat_lt n count) (Some n) None
 find_lowest held n there gone zero = sym (rw (le-ltb n 0 (omega arith)) refl)
@@ -27,13 +27,13 @@ find_lowest {X} held n there gone (suc c) =
     go (inr (inr above)) = rw (le-ltb n c (omega arith), le-ltb n (suc c) (omega arith), there c above) refl
 
 -- what is held at each place of a list
-pub filter_map_front : {X : Type 0} (xs : List X) (later : ℕ → Option X) (count : ℕ) → count ≤ length xs →
+pub filter_map_prefix : {X : Type 0} (xs : List X) (later : ℕ → Option X) (count : ℕ) → count ≤ length xs →
     filter_map (λ p. option_or (slice_get xs p) (later p)) (numbers_below count) ≡ take count xs
-filter_map_front xs later zero within = refl
-filter_map_front [] later (suc c) within = absurd (omega arith)
-filter_map_front (x ∷ xs) later (suc c) within =
+filter_map_prefix xs later zero within = refl
+filter_map_prefix [] later (suc c) within = absurd (omega arith)
+filter_map_prefix (x ∷ xs) later (suc c) within =
     filter_map-append (λ p. option_or (slice_get (x ∷ xs) p) (later p)) (numbers_below c) (c ∷ [])
-    ∙ ap (λ ys. ys ++ cons_option (option_or (slice_get (x ∷ xs) c) (later c)) []) (filter_map_front (x ∷ xs) later c (omega arith))
+    ∙ ap (λ ys. ys ++ cons_option (option_or (slice_get (x ∷ xs) c) (later c)) []) (filter_map_prefix (x ∷ xs) later c (omega arith))
     ∙ rw (slice_get-get_or (x ∷ xs) c x (omega arith)) (sym (take-suc (x ∷ xs) c x (omega arith)))
 
 -- lists of functions that agree below a number
@@ -61,7 +61,7 @@ map_same f g (suc n) same =
     ∙ ap (λ x. map g (numbers_below n) ++ x ∷ []) (same n (omega arith))
     ∙ sym (map-append g (numbers_below n) (n ∷ []))
 
--- nothing is given exactly where nothing is first
+-- nothing is given exactly if no number is first
 pub all_none : {X Y : Type 0} (f : X → Option Y) (xs : List X) → list_all (λ x. is_none (f x)) xs ≡ is_none (first_of (filter_map f xs))
 all_none f [] = refl
 all_none {X} {Y} f (x ∷ xs) = go (f x) (all_none f xs)
@@ -71,7 +71,7 @@ all_none {X} {Y} f (x ∷ xs) = go (f x) (all_none f xs)
     go None rest = rest
     go (Some y) rest = refl
 
--- the first that is given, after one number more
+-- the first that is given, after one more number
 pub first_more : {X : Type 0} (f : ℕ → Option X) (n : ℕ) → first_of (filter_map f (numbers_below (suc n))) ≡ option_or (first_of (filter_map f (numbers_below n))) (f n)
 first_more {X} f n = ap first_of (filter_map-append f (numbers_below n) (n ∷ [])) ∙ go (filter_map f (numbers_below n)) (f n)
   where
@@ -97,7 +97,7 @@ none_parts : {X : Type 0} (a b : Option X) → option_or a b ≡ None → (a ≡
 none_parts None b none = (refl, none)
 none_parts (Some x) b none = let h : Some x ≡ None = none in absurd (some_none x h)
 
--- where nothing is first, nothing is given
+-- if no number is first, nothing is given
 pub none_given : {X : Type 0} (f : ℕ → Option X) (n : ℕ) → first_of (filter_map f (numbers_below n)) ≡ None → (k : ℕ) → k < n → f k ≡ None
 none_given f zero none k below = absurd (omega arith)
 none_given {X} f (suc n) none k below = go (cases_order k n) (none_parts _ (f n) (sym (first_more f n) ∙ none)) (λ parts less. none_given f n parts k less)
@@ -107,7 +107,7 @@ none_given {X} f (suc n) none k below = go (cases_order k n) (none_parts _ (f n)
     go (inr (inl less)) parts rest = rest parts.0 less
     go (inr (inr more)) parts rest = absurd (omega arith)
 
--- a list by what stands at each place
+-- a list by its items at each place
 pub list_by_places : {X : Type 0} (f : ℕ → X) (xs : List X) (n : ℕ) → n ≤ length xs → ((k : ℕ) (d : X) → k < n → get_or xs k d ≡ f k) → take n xs ≡ map f (numbers_below n)
 list_by_places f xs zero within same = refl
 list_by_places f xs (suc n) within same =
@@ -116,6 +116,6 @@ list_by_places f xs (suc n) within same =
     ∙ ap (λ x. map f (numbers_below n) ++ x ∷ []) (same n (f n) (omega arith))
     ∙ sym (map-append f (numbers_below n) (n ∷ []))
 
--- the first number, where something is given for it
+-- the first number, if something is given for it
 pub first_at_zero : {X : Type 0} (f : ℕ → Option X) (x : X) (n : ℕ) → 0 < n → f 0 ≡ Some x → first_of (filter_map f (numbers_below n)) ≡ Some x
 first_at_zero f x n some found = first_stays f 0 x refl found n some

@@ -18,7 +18,7 @@ use Rattle.rb_evbuf.specs.Gathered.{missing_under, part_under, place_in, IsGaple
 use Rattle.rb_evbuf.specs.Epoch.{place_at, count_at, IsSound, missing_in, parts_in}
 use Rattle.rb_evbuf.specs.declared.gathered.Gathered.{Gathered}
 use Rattle.rb_evbuf.specs.declared.epoch.GatheredEpoch.{GatheredEpoch}
-use Rattle.rb_evbuf.proofs.Numbers.{find_lowest, filter_map_front, list_by_places, none_given, first_more, first_stays}
+use Rattle.rb_evbuf.proofs.Numbers.{find_lowest, filter_map_prefix, list_by_places, none_given, first_more, first_stays}
 
 there : {X : Type 0} (front : List X) (later : ℕ → Option X) (p : ℕ) → p < length front → is_none (option_or (slice_get front p) (later p)) ≡ false
 there [] later p below = absurd (omega arith)
@@ -30,7 +30,7 @@ gone front later none = rw (slice_get_past front (length front) (omega arith), n
 true_is_false : false ≡ true → ⊥
 true_is_false e = cc
 
--- the lowest place that is missing is the one behind the front
+-- the lowest place that is missing is the one after the front
 missing_is : (bucket : ℕ) (front : List Change) (later : ℕ → Option Change) (count : ℕ) → later (length front) ≡ None →
     missing_under bucket (λ place. option_or (slice_get front place) (later place)) (Some count)
     ≡ option_map (λ place. record { bucket = bucket; place = Some place }) (cond (nat_lt (length front) count) (Some (length front)) None)
@@ -49,7 +49,7 @@ missing_none bucket front later count none above = sym (missing_is bucket front 
 some_is_none : {X : Type 0} (x : X) → Some x ≡ None → ⊥
 some_is_none x e = cc
 
--- where nothing is missing, the front has the part
+-- if nothing is missing, the front has the part
 pub part_is : (bucket : ℕ) (front : List Change) (later : ℕ → Option Change) (count : Option ℕ) (most : ℕ) → later (length front) ≡ None →
     missing_under bucket (λ place. option_or (slice_get front place) (later place)) count ≡ None →
     most ≡ unwrap_or count 0 →
@@ -59,7 +59,7 @@ part_is bucket front later (Some count) most none whole is = rw is (go (cases_lt
   where
     go : (length front < count) ⊎ (count ≤ length front) → take count front ≡ filter_map (λ place. option_or (slice_get front place) (later place)) (numbers_below count)
     go (inl below) = absurd (some_is_none _ (missing_some bucket front later count none below ∙ whole))
-    go (inr above) = sym (filter_map_front front later count above)
+    go (inr above) = sym (filter_map_prefix front later count above)
 
 -- an item written
 slice_get_set : {X : Type 0} (xs : List X) (i : ℕ) (x : X) (j : ℕ) → i < length xs → slice_get (set xs i x) j ≡ cond (i == j) (Some x) (slice_get xs j)
@@ -69,7 +69,7 @@ slice_get_set (y ∷ ys) zero x (suc j) within = rw (eqb-zero-suc j) refl
 slice_get_set (y ∷ ys) (suc i) x zero within = rw (eqb-suc-zero i) refl
 slice_get_set (y ∷ ys) (suc i) x (suc j) within = rw (eqb-suc-suc i j) (slice_get_set ys i x j (omega arith))
 
--- what is seen of each item after one is written, where `added` tells it of the new one
+-- what is seen of each item after one is written, if `added` says it of the new one
 pub seen_written : {X Y : Type 0} (view : X → Option Y) (xs : List X) (i : ℕ) (old new : X) (added : Bool → Option Y) (j : ℕ) →
     slice_get xs i ≡ Some old → view new ≡ option_or (view old) (added true) → added false ≡ None →
     option_and_then view (slice_get (set xs i new) j) ≡ option_or (option_and_then view (slice_get xs j)) (added (i == j))
@@ -83,7 +83,7 @@ seen_written {X} {Y} view xs i old new added j was kept none = rw (slice_get_set
     go true same = let e : i ≡ j = eqb-true i j same in rw (← e, was) kept
     go false differs = rw none (or_none (option_and_then view (slice_get xs j)))
 
--- the same where the new one shows what the old one did
+-- the same if the new one shows what the old one did
 pub seen_same : {X Y : Type 0} (view : X → Option Y) (xs : List X) (i : ℕ) (old new : X) (j : ℕ) →
     slice_get xs i ≡ Some old → view new ≡ view old →
     option_and_then view (slice_get (set xs i new) j) ≡ option_and_then view (slice_get xs j)
@@ -93,7 +93,7 @@ seen_same {X} {Y} view xs i old new j was same = rw (slice_get_set xs i new j (s
     go true equal = let e : i ≡ j = eqb-true i j equal in rw (← e, was) same
     go false differs = refl
 
--- what is missing of a bucket that is there, and its part
+-- what is missing of a bucket that exists, and its part
 pub missing_there : (epoch : GatheredEpoch) (bucket : ℕ) (gathered : Gathered) → slice_get epoch.buckets.items bucket ≡ Some gathered →
     missing_under bucket (place_at epoch bucket) (count_at epoch bucket) ≡ missing_under bucket (place_in gathered) gathered.count
 missing_there epoch bucket gathered is =
@@ -127,7 +127,7 @@ popped {X} xs ys x n is =
     let whole : xs ≡ ys ++ (x ∷ drop n xs) = sym (take-append-drop n xs) ∙ ap (λ (front : List X). front ++ drop n xs) is ∙ append_assoc ys (x ∷ []) (drop n xs) in
     (sym (ap (take (length ys)) whole ∙ take-append_seam ys (x ∷ drop n xs)), ap (λ (zs : List X). slice_get zs (length ys)) whole ∙ slice_get_seam ys x (drop n xs))
 
--- one part more, from behind
+-- one more part, from the end
 pub one_part_more : (epoch : GatheredEpoch) (buckets at : ℕ) (gathered : Gathered) (before : List (List Change)) (part : List Change) →
     IsSound epoch buckets → length before ≡ buckets → slice_get epoch.buckets.items at ≡ Some gathered →
     (IsGapless gathered → missing_under 0 (place_in gathered) gathered.count ≡ None → part ≡ part_under (place_in gathered) gathered.count) →
@@ -168,7 +168,7 @@ first_missing epoch bucket buckets None none below some is = absurd (true_is_fal
 first_missing epoch bucket buckets (Some missing) none below some is =
     sym (first_stays (λ b. missing_under b (place_at epoch b) (count_at epoch b)) bucket missing none (sym is) buckets below)
 
--- none is the answer where it is not some
+-- the result is none if it is not some
 pub not_some : {X : Type 0} (o : Option X) → is_some o ≡ false → o ≡ None
 not_some None e = refl
 not_some (Some x) e = absurd (true_is_false (sym e))

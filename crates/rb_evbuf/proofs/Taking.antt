@@ -1,4 +1,4 @@
--- What a buffer misses, and what it stands for once an epoch is taken.
+-- What a buffer misses, and what it represents once an epoch is taken.
 use Rattle.std.proofs.Common.{◌≡◌, ◌⊎◌, inl, inr, ℕ, ◌<◌, ◌≤◌, zero, suc, Bool, true, false, cond, List, [], ◌∷◌, map, refl, subst, sym, ap, ◌∙◌, arith}
 use Rattle.std.specs.Prelude.{◌==◌, if◌then◌else◌, nat_lt, Option, Some, None, is_none, is_some, filter_map, IfSome}
 use Rattle.std.specs.List.{cons_option}
@@ -14,12 +14,12 @@ use Rattle.rb_base.specs.declared.message.Message.{Message}
 use Rattle.rb_base.specs.declared.message.Message.TheVariants.{Part, Done}
 use Rattle.rb_journal_defs.specs.Body.{numbers_below}
 use Rattle.rb_journal_defs.specs.Transaction.{first_of}
-use Rattle.rb_message_defs.specs.Received.{Fed, part_in, count_in, epoch_behind, next_epoch, missing_below, missing_of_bucket, missing_of, is_whole, part_received, assembly, assembled_of, taken_from, AreChained}
+use Rattle.rb_message_defs.specs.Received.{Fed, part_in, count_in, epoch_following, next_epoch, missing_below, missing_of_bucket, missing_of, is_whole, part_received, assembly, assembled_of, taken_from, AreChained}
 use Rattle.rb_message_defs.specs.declared.answers.Missing.{Missing}
 use Rattle.rb_message_defs.specs.declared.answers.Assembled.{Assembled}
 use Rattle.rb_evbuf.specs.Gathered.{missing_under, part_under}
 use Rattle.rb_evbuf.specs.Epoch.{place_at, count_at, IsSound, missing_in, parts_in}
-use Rattle.rb_evbuf.specs.Buffer.{StandsFor, place_of, count_of, behind_of}
+use Rattle.rb_evbuf.specs.Buffer.{StandsFor, place_of, count_of, following_of}
 use Rattle.rb_evbuf.specs.declared.epoch.GatheredEpoch.{GatheredEpoch}
 use Rattle.rb_evbuf.specs.declared.buffer.EventBuffer.{EventBuffer}
 use Rattle.rb_evbuf.proofs.Feeding.{chained_before, head_of}
@@ -30,7 +30,7 @@ is_equal : (b : Bool) → is_eq (cond b Equal Greater) ≡ b
 is_equal true = refl
 is_equal false = refl
 
--- two numbers are at one place exactly where they are equal
+-- two numbers are at one place exactly if they are equal
 at_key : (key other : ℕ) → is_at (nat_cmp key) other ≡ (key == other)
 at_key key other = go (nat_lt key other) refl
   where
@@ -48,30 +48,30 @@ some_none x e = cc
 same_some : {X : Type 0} (x y : X) → Some x ≡ Some y → x ≡ y
 same_some x y e = cc
 
--- the epoch that a Done puts behind another is later
-pub next_later : (received : List Message) (last epoch : ℕ) → AreChained received → first_of (filter_map (epoch_behind last) received) ≡ Some epoch → last < epoch
+-- the epoch that a Done puts after another is later
+pub next_later : (received : List Message) (last epoch : ℕ) → AreChained received → first_of (filter_map (epoch_following last) received) ≡ Some epoch → last < epoch
 next_later [] last epoch chained is = absurd (some_none epoch (sym is))
 next_later (Part b own p change ∷ older) last epoch chained is = next_later older last epoch (chained_before (Part b own p change) older chained) is
 next_later (Done b own prev count ∷ older) last epoch chained is =
     go (prev.0 == last) refl is (λ rest. next_later older last epoch (chained_before (Done b own prev count) older chained) rest)
     (chained b own prev count (head_of (Done b own prev count) older)).0
   where
-    go : (same : Bool) → (prev.0 == last) ≡ same → first_of (cons_option (if same then Some own.0 else None) (filter_map (epoch_behind last) older)) ≡ Some epoch →
-        (first_of (filter_map (epoch_behind last) older) ≡ Some epoch → last < epoch) → prev.0 < own.0 → last < epoch
+    go : (same : Bool) → (prev.0 == last) ≡ same → first_of (cons_option (if same then Some own.0 else None) (filter_map (epoch_following last) older)) ≡ Some epoch →
+        (first_of (filter_map (epoch_following last) older) ≡ Some epoch → last < epoch) → prev.0 < own.0 → last < epoch
     go true same is rest before = let a : prev.0 ≡ last = eqb-true prev.0 last same in let b : own.0 ≡ epoch = same_some own.0 epoch is in omega arith
     go false differs is rest before = rest is
 
 -- a buffer knows the next epoch
-pub next_is : (buffer : EventBuffer) (fed : Fed) → StandsFor buffer fed → AreChained fed.received → next_epoch fed ≡ behind_of buffer buffer.last.0
+pub next_is : (buffer : EventBuffer) (fed : Fed) → StandsFor buffer fed → AreChained fed.received → next_epoch fed ≡ following_of buffer buffer.last.0
 next_is buffer fed stands chained =
-    sym (stands.behind chained fed.last (omega arith)) ∙ ap (behind_of buffer) (sym stands.last)
+    sym (stands.following chained fed.last (omega arith)) ∙ ap (following_of buffer) (sym stands.last)
 
--- it has buckets where something came
+-- it has buckets if something came
 some_buckets : (buffer : EventBuffer) (fed : Fed) (epoch : ℕ) → StandsFor buffer fed → next_epoch fed ≡ Some epoch → 0 < fed.buckets
 some_buckets buffer fed epoch stands is = go fed.buckets refl
   where
     go : (n : ℕ) → fed.buckets ≡ n → 0 < n
-    go zero none = absurd (some_none epoch (sym (sym (ap (λ (rs : List Message). first_of (filter_map (epoch_behind fed.last) rs)) (stands.some none)) ∙ is)))
+    go zero none = absurd (some_none epoch (sym (sym (ap (λ (rs : List Message). first_of (filter_map (epoch_following fed.last) rs)) (stands.some none)) ∙ is)))
     go (suc n) some = omega arith
 
 -- what is missing of a bucket, and its part, by what is held of it
@@ -129,16 +129,16 @@ missing_unknown buffer fed (Some epoch) stands chained next is =
     ∙ first_at_zero (missing_of_bucket fed.received epoch) (record { bucket = 0; place = None }) fed.buckets (some_buckets buffer fed epoch stands next)
     (ap (missing_below fed.received epoch 0) none)
 
--- the answer of `missing`
+-- the result of `missing`
 pub missing_absent : (buffer : EventBuffer) (fed : Fed) → StandsFor buffer fed → AreChained fed.received →
-    option_and_then (tree.get nat_cmp buffer.epochs) (behind_of buffer buffer.last.0) ≡ None → Some (record { bucket = 0; place = None }) ≡ missing_of fed
-missing_absent buffer fed stands chained none = sym (missing_unknown buffer fed (behind_of buffer buffer.last.0) stands chained (next_is buffer fed stands chained) none)
+    option_and_then (tree.get nat_cmp buffer.epochs) (following_of buffer buffer.last.0) ≡ None → Some (record { bucket = 0; place = None }) ≡ missing_of fed
+missing_absent buffer fed stands chained none = sym (missing_unknown buffer fed (following_of buffer buffer.last.0) stands chained (next_is buffer fed stands chained) none)
 
 pub missing_present : (buffer : EventBuffer) (fed : Fed) (gathered : GatheredEpoch) (answer : Option Missing) → StandsFor buffer fed → AreChained fed.received →
-    Some gathered ≡ option_and_then (tree.get nat_cmp buffer.epochs) (behind_of buffer buffer.last.0) → (IsSound gathered buffer.buckets → answer ≡ missing_in gathered buffer.buckets) → answer ≡ missing_of fed
-missing_present buffer fed gathered answer stands chained is gives = go (behind_of buffer buffer.last.0) refl is
+    Some gathered ≡ option_and_then (tree.get nat_cmp buffer.epochs) (following_of buffer buffer.last.0) → (IsSound gathered buffer.buckets → answer ≡ missing_in gathered buffer.buckets) → answer ≡ missing_of fed
+missing_present buffer fed gathered answer stands chained is gives = go (following_of buffer buffer.last.0) refl is
   where
-    go : (next : Option ℕ) → behind_of buffer buffer.last.0 ≡ next → Some gathered ≡ option_and_then (tree.get nat_cmp buffer.epochs) next → answer ≡ missing_of fed
+    go : (next : Option ℕ) → following_of buffer buffer.last.0 ≡ next → Some gathered ≡ option_and_then (tree.get nat_cmp buffer.epochs) next → answer ≡ missing_of fed
     go None next is = absurd (some_none gathered is)
     go (Some epoch) next is =
         let sound : IsSound gathered buffer.buckets = subst (λ (o : Option GatheredEpoch). IfSome o (λ g. IsSound g buffer.buckets)) (sym is) (stands.sound epoch) in
@@ -151,7 +151,7 @@ assembled_next : (fed : Fed) (next : Option ℕ) → next_epoch fed ≡ next →
 unfolding assembled_of assembled_at
 assembled_next fed next is = ap (assembled_at fed) is
 
--- where something is missing there is no epoch to take
+-- if something is missing there is no epoch to take
 pub not_assembled : (fed : Fed) (missing : Option Missing) → missing ≡ missing_of fed → is_some missing ≡ true → assembled_of fed ≡ None
 unfolding assembled_at missing_at
 not_assembled fed missing is some = go (next_epoch fed) refl
@@ -192,8 +192,8 @@ stands_untaken buffer fed stands none =
 -- an epoch was taken
 pub stands_taken : (old new : EventBuffer) (fed : Fed) (assembled : Assembled) → StandsFor old fed → AreChained fed.received → next_epoch fed ≡ Some assembled.epoch.0 → Some assembled ≡ assembled_of fed →
     new.buckets ≡ old.buckets → new.last ≡ assembled.epoch →
-    UpdatesBy nat_cmp (nat_cmp old.last.0) old.behind new.behind None → UpdatesBy nat_cmp (nat_cmp assembled.epoch.0) old.epochs new.epochs None → StandsFor new (taken_from fed)
-stands_taken old new fed assembled stands chained next is buckets last behind epochs =
+    UpdatesBy nat_cmp (nat_cmp old.last.0) old.following new.following None → UpdatesBy nat_cmp (nat_cmp assembled.epoch.0) old.epochs new.epochs None → StandsFor new (taken_from fed)
+stands_taken old new fed assembled stands chained next is buckets last following epochs =
     subst (λ (o : Option Assembled). StandsFor new (record { buckets = fed.buckets; last = option_map_or (λ a. a.epoch.0) o fed.last; received = fed.received })) is (record {
       buckets = buckets ∙ stands.buckets;
       last = ap (λ (e : Epoch). e.0) last;
@@ -207,9 +207,9 @@ stands_taken old new fed assembled stands chained next is buckets last behind ep
           ∙ stands.counts epoch bucket (omega (arith, later));
       gone_places = λ epoch bucket place low. gone_place epoch bucket place low (cases_eq assembled.epoch.0 epoch) (lt_or_le fed.last epoch);
       gone_counts = λ epoch bucket low. gone_count epoch bucket low (cases_eq assembled.epoch.0 epoch) (lt_or_le fed.last epoch);
-      behind = λ _ epoch from.
-          ap (option_map (λ (e : Epoch). e.0)) (without_key old.behind new.behind old.last.0 epoch behind (λ same. absurd (let h : old.last.0 ≡ fed.last = stands.last in omega (arith, later))))
-          ∙ stands.behind chained epoch (omega (arith, later));
+      following = λ _ epoch from.
+          ap (option_map (λ (e : Epoch). e.0)) (without_key old.following new.following old.last.0 epoch following (λ same. absurd (let h : old.last.0 ≡ fed.last = stands.last in omega (arith, later))))
+          ∙ stands.following chained epoch (omega (arith, later));
     })
   where
     later : fed.last < assembled.epoch.0
@@ -244,9 +244,9 @@ stands_taken old new fed assembled stands chained next is buckets last behind ep
         subst (λ (o : Option GatheredEpoch). IfSome o (λ g. IsSound g new.buckets)) (sym (without_key old.epochs new.epochs assembled.epoch.0 epoch epochs differs))
         (subst (λ (n : ℕ). IfSome (tree.get nat_cmp old.epochs epoch) (λ g. IsSound g n)) (sym buckets) (stands.sound epoch))
 
--- where nothing is missing the next epoch is known, and something of it is kept
+-- if nothing is missing the next epoch is known, and something of it is kept
 pub is_there : (buffer : EventBuffer) (fed : Fed) (missing : Option Missing) → StandsFor buffer fed → AreChained fed.received → missing ≡ missing_of fed → is_some missing ≡ false →
-    option_and_then (tree.get nat_cmp buffer.epochs) (behind_of buffer buffer.last.0) ≡ None → ⊥
+    option_and_then (tree.get nat_cmp buffer.epochs) (following_of buffer buffer.last.0) ≡ None → ⊥
 is_there buffer fed missing stands chained is none absent =
     let h : true ≡ false = ap is_some (missing_absent buffer fed stands chained absent ∙ sym is) ∙ none in cc
 
@@ -255,16 +255,16 @@ none_missing None e = refl
 none_missing (Some m) e = let h : true ≡ false = e in cc
 
 -- the next epoch, by what is taken from the map
-pub next_taken : (buffer : EventBuffer) (fed : Fed) (epoch : Epoch) → StandsFor buffer fed → AreChained fed.received → Some epoch ≡ tree.get nat_cmp buffer.behind buffer.last.0 → next_epoch fed ≡ Some epoch.0
+pub next_taken : (buffer : EventBuffer) (fed : Fed) (epoch : Epoch) → StandsFor buffer fed → AreChained fed.received → Some epoch ≡ tree.get nat_cmp buffer.following buffer.last.0 → next_epoch fed ≡ Some epoch.0
 next_taken buffer fed epoch stands chained is = next_is buffer fed stands chained ∙ ap (option_map (λ (e : Epoch). e.0)) (sym is)
 
 -- the epoch that is taken, by its parts
 pub assembled_with : (buffer : EventBuffer) (fed : Fed) (epoch : Epoch) (gathered : GatheredEpoch) (missing : Option Missing) (parts : List (List Change)) → StandsFor buffer fed → AreChained fed.received →
-    Some epoch ≡ tree.get nat_cmp buffer.behind buffer.last.0 → Some gathered ≡ tree.get nat_cmp buffer.epochs epoch.0 → missing ≡ missing_of fed → is_some missing ≡ false →
+    Some epoch ≡ tree.get nat_cmp buffer.following buffer.last.0 → Some gathered ≡ tree.get nat_cmp buffer.epochs epoch.0 → missing ≡ missing_of fed → is_some missing ≡ false →
     ((buckets : ℕ) → IsSound gathered buckets → missing_in gathered buckets ≡ None → parts ≡ parts_in gathered buckets) →
     Some (record { epoch = epoch; prev = buffer.last; parts = parts }) ≡ assembled_of fed
-assembled_with buffer fed epoch gathered missing parts stands chained behind is answer none gives =
-    let next = next_taken buffer fed epoch stands chained behind in
+assembled_with buffer fed epoch gathered missing parts stands chained following is answer none gives =
+    let next = next_taken buffer fed epoch stands chained following in
     let whole : missing_of fed ≡ None = sym answer ∙ none_missing missing none in
     let sound : IsSound gathered buffer.buckets = subst (λ (o : Option GatheredEpoch). IfSome o (λ g. IsSound g buffer.buckets)) (sym is) (stands.sound epoch.0) in
     let kept : missing_in gathered buffer.buckets ≡ None = ap (missing_in gathered) stands.buckets ∙ sym (missing_kept buffer fed epoch.0 gathered stands chained next (sym is)) ∙ whole in

@@ -1,4 +1,4 @@
--- What an event buffer stands for.
+-- What an event buffer represents.
 use Rattle.std.specs.Prelude.{◌≡◌, ℕ, ◌≤◌, ◌<◌, [], filter_map, Option, IfSome, None}
 use Rattle.std.specs.Option.{option_and_then, option_map}
 use Rattle.std.specs.Ordering.{nat_cmp}
@@ -6,15 +6,15 @@ use Rattle.std.specs.BTreeMap as tree
 use Rattle.rb_base.specs.declared.epoch.Epoch.{Epoch}
 use Rattle.rb_base.specs.declared.change.Change.{Change}
 use Rattle.rb_journal_defs.specs.Transaction.{first_of}
-use Rattle.rb_message_defs.specs.Received.{Fed, part_in, count_in, epoch_behind, AreChained}
+use Rattle.rb_message_defs.specs.Received.{Fed, part_in, count_in, epoch_following, AreChained}
 use Rattle.rb_evbuf.specs.Epoch.{place_at, count_at, IsSound}
 use Rattle.rb_evbuf.specs.declared.buffer.EventBuffer.{EventBuffer}
 
--- how many buckets a buffer is for
+-- the number of a buffer's buckets
 abbrev pub buckets_of : EventBuffer → ℕ
 buckets_of buffer = buffer.buckets
 
--- the last epoch that was taken from it, or the one behind which it began
+-- the last taken epoch, or the one with which it began
 abbrev pub last_of : EventBuffer → ℕ
 last_of buffer = buffer.last.0
 
@@ -26,16 +26,16 @@ place_of buffer epoch bucket place = option_and_then (λ gathered. place_at gath
 abbrev pub count_of : EventBuffer → (epoch bucket : ℕ) → Option ℕ
 count_of buffer epoch bucket = option_and_then (λ gathered. count_at gathered bucket) (tree.get nat_cmp buffer.epochs epoch)
 
--- the epoch that a Done put behind this one
-abbrev pub behind_of : EventBuffer → (epoch : ℕ) → Option ℕ
-behind_of buffer epoch = option_map (λ (next : Epoch). next.0) (tree.get nat_cmp buffer.behind epoch)
+-- the epoch that a Done named as the one after this
+abbrev pub following_of : EventBuffer → (epoch : ℕ) → Option ℕ
+following_of buffer epoch = option_map (λ (next : Epoch). next.0) (tree.get nat_cmp buffer.following epoch)
 
--- each epoch that it keeps is of its buckets, without gaps
+-- each epoch that it keeps has its buckets, without gaps
 abbrev pub AreSound : EventBuffer → Type 0
 AreSound buffer = (epoch : ℕ) → IfSome (tree.get nat_cmp buffer.epochs epoch) (λ gathered. IsSound gathered buffer.buckets)
 
--- a buffer stands for what it was fed: it knows the places and counts of the epochs that are not taken yet, and which of them
--- is the next one; of those at or below the last taken one it keeps nothing
+-- a buffer represents what it was fed: it knows the places and counts of the epochs that were not
+-- taken, and which of them is next; it keeps nothing of epochs at or below the last taken one
 pub record StandsFor (buffer : EventBuffer) (fed : Fed) : Type 0 where
   pub buckets : buffer.buckets ≡ fed.buckets
   pub last : buffer.last.0 ≡ fed.last
@@ -45,4 +45,4 @@ pub record StandsFor (buffer : EventBuffer) (fed : Fed) : Type 0 where
   pub counts : (epoch bucket : ℕ) → fed.last < epoch → count_of buffer epoch bucket ≡ count_in fed.received epoch bucket
   pub gone_places : (epoch bucket place : ℕ) → epoch ≤ fed.last → place_of buffer epoch bucket place ≡ None
   pub gone_counts : (epoch bucket : ℕ) → epoch ≤ fed.last → count_of buffer epoch bucket ≡ None
-  pub behind : AreChained fed.received → (epoch : ℕ) → fed.last ≤ epoch → behind_of buffer epoch ≡ first_of (filter_map (epoch_behind epoch) fed.received)
+  pub following : AreChained fed.received → (epoch : ℕ) → fed.last ≤ epoch → following_of buffer epoch ≡ first_of (filter_map (epoch_following epoch) fed.received)

@@ -1,4 +1,4 @@
--- What came of the buckets in an epoch.
+-- What was received of the buckets in an epoch.
 use Rattle.std.specs.Prelude.{◌≡◌, ℕ, length, List, map, filter_map, Option}
 use Rattle.std.specs.List.{slice_get, All}
 use Rattle.std.specs.Option.{option_and_then}
@@ -17,7 +17,7 @@ place_at epoch bucket place = option_and_then (λ gathered. place_in gathered pl
 abbrev pub count_at : GatheredEpoch → (bucket : ℕ) → Option ℕ
 count_at epoch bucket = option_and_then (λ gathered. gathered.count) (slice_get epoch.buckets.items bucket)
 
--- it is of so many buckets, each without a gap, and has room for their parts
+-- it has this many buckets, each without a gap, and room for their parts
 pub record IsSound (epoch : GatheredEpoch) (buckets : ℕ) : Type 0 where
   pub width : length epoch.buckets.items ≡ buckets
   pub room : length epoch.parts.items ≡ buckets

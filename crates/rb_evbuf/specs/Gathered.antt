@@ -1,4 +1,4 @@
--- What came of a bucket in an epoch.
+-- What was received of a bucket in an epoch.
 use Rattle.std.specs.Prelude.{◌≡◌, ℕ, ◌==◌, if◌then◌else◌, length, List, filter_map, Option, Some, None, is_none}
 use Rattle.std.specs.List.{slice_get, find}
 use Rattle.std.specs.Option.{option_or, option_map, option_map_or}
@@ -17,11 +17,12 @@ place_in gathered place = option_or (slice_get gathered.front.items place) (tree
 abbrev pub with_place : (place : ℕ) → Change → (held : ℕ → Option Change) → ℕ → Option Change
 with_place place change held other = option_or (held other) (if place == other then Some change else None)
 
--- the place behind the front is missing
+-- the place after `front` is missing
 abbrev pub IsGapless : Gathered → Type 0
 IsGapless gathered = tree.get nat_cmp gathered.ahead (length gathered.front.items) ≡ None
 
--- the first thing that is missing of a bucket that has these places: its Done, or else the lowest place below the count
+-- the first thing that is missing of a bucket with these places: its Done, or else the lowest place
+-- below the count
 abbrev pub missing_under : (bucket : ℕ) → (held : ℕ → Option Change) → (count : Option ℕ) → Option Missing
 missing_under bucket held None = Some (record { bucket = bucket; place = None })
 missing_under bucket held (Some count) =
@@ -31,7 +32,7 @@ missing_under bucket held (Some count) =
 abbrev pub part_under : (held : ℕ → Option Change) → (count : Option ℕ) → List Change
 part_under held count = filter_map held (numbers_below (option_map_or (λ count. count) count 0))
 
--- nothing came
+-- nothing was received
 pub record IsBlank (gathered : Gathered) : Type 0 where
   pub places : (place : ℕ) → place_in gathered place ≡ None
   pub gapless : IsGapless gathered

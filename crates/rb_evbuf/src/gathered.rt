@@ -8,21 +8,21 @@ use rb_message_defs::Missing;
 use std::alloc::Global;
 use std::collections::BTreeMap;
 
-/// What came of one bucket in one epoch.
+/// What was received of one bucket in one epoch.
 #[derive(Drop)]
 pub struct Gathered {
-    // The changes of the places from 0 that came without a gap.
+    // The changes of the places from 0 on, up to the first gap.
     front: Vec<Change>,
-    // Those whose place lies further on, by place. The place behind the front is not among them.
+    // The changes of later places, by place. The place of the first gap is not among them.
     ahead: BTreeMap<u64, Change>,
-    // How many places there are, once the bucket's Done has told it.
+    // The number of places, once the bucket's Done named it.
     count: Option<u32>,
 }
 
 impl Gathered {
     ghost use Rattle.rb_evbuf.specs.Gathered.{place_in, with_place, IsGapless, IsBlank, missing_under, part_under};
 
-    /// Nothing came yet.
+    /// Returns the state of a bucket of which nothing was received.
     pub fn new(alloc: Global) -> Self
         ensures { IsBlank result }
     {
@@ -33,18 +33,20 @@ impl Gathered {
         }
     }
 
-    /// Keeps a change, and answers whether it is the first of its place.
+    /// Keeps a change. Returns whether it is the first for its place.
     pub fn add(&mut self, place: u32, change: Change) -> Result<bool, NoMemory>
         ensures first { IfOk result (λ first. first ≡ is_none (place_in self.old place)) }
-        ensures kept { OnOk result ((other : ℕ) → place_in self.new other ≡ with_place place change (place_in self.old) other) }
-        ensures memory { OnErr result ((other : ℕ) → place_in self.new other ≡ place_in self.old other) }
+        ensures kept { OnOk result ((other : ℕ) →
+            place_in self.new other ≡ with_place place change (place_in self.old) other) }
+        ensures memory { OnErr result ((other : ℕ) →
+            place_in self.new other ≡ place_in self.old other) }
         ensures gapless { IsGapless self.old → IsGapless self.new }
         ensures count { self.new.count ≡ self.old.count }
     {
         if self.has(place) {
             return Ok(false);
         }
-        // All of the room comes first, so that a move from `ahead` never wants memory.
+        // All room is reserved first, so that a move from `ahead` never allocates.
         self.front.reserve(self.ahead.len() + 1)?;
         let place = u64::from(place);
         if place == self.front.len() as u64 {
@@ -56,8 +58,8 @@ impl Gathered {
         Ok(true)
     }
 
-    /// Keeps the count, and answers whether it is the first.
-    pub fn tell(&mut self, count: u32) -> bool
+    /// Keeps the count. Returns whether it is the first.
+    pub fn note_done(&mut self, count: u32) -> bool
         ensures first { result ≡ is_none self.old.count }
         ensures kept { self.new.count ≡ option_or self.old.count (Some count) }
         ensures places { (place : ℕ) → place_in self.new place ≡ place_in self.old place }
@@ -70,9 +72,10 @@ impl Gathered {
         true
     }
 
-    /// The first thing that is missing of it, as that of a bucket of this number.
+    /// Returns the first thing that is missing, as that of the bucket with this number.
     pub fn missing(&self, bucket: u32) -> Option<Missing>
-        ensures { IsGapless self.now → result ≡ missing_under bucket (place_in self.now) self.now.count }
+        ensures { IsGapless self.now →
+            result ≡ missing_under bucket (place_in self.now) self.now.count }
     {
         match self.count {
             None => Some(Missing {
@@ -93,25 +96,28 @@ impl Gathered {
         }
     }
 
-    /// The part, where nothing is missing.
+    /// Returns the part of a bucket that is whole.
     pub fn into_part(self) -> Part
-        ensures { IsGapless self → missing_under 0 (place_in self) self.count ≡ None → result ≡ part_under (place_in self) self.count }
+        ensures { IsGapless self → missing_under 0 (place_in self) self.count ≡ None →
+            result ≡ part_under (place_in self) self.count }
     {
         let mut part = self.front;
         part.truncate(self.count.unwrap_or(0) as usize);
         Items::from_vec(part)
     }
 
-    // The change of a place came.
+    // Returns whether the change of a place was received.
     fn has(&self, place: u32) -> bool
         ensures { result ≡ is_some (place_in self.now place) }
     {
         (place as usize) < self.front.len() || self.ahead.contains_key(&u64::from(place))
     }
 
-    // What follows the front is moved there. No memory is wanted where the front has room for all that is ahead.
+    // Moves the changes that follow the first gap's end into `front`. Allocates nothing if `front`
+    // has room for all that is ahead.
     fn close_gap(&mut self) -> Result<(), NoMemory>
-        requires room { vec_len self.old.front + btree_map_len self.old.ahead ≤ vec_capacity self.old.front }
+        requires room { vec_len self.old.front + btree_map_len self.old.ahead ≤ vec_capacity
+            self.old.front }
         ensures never { OnErr result ⊥ }
         ensures same { (other : ℕ) → place_in self.new other ≡ place_in self.old other }
         ensures gapless { IsGapless self.new }

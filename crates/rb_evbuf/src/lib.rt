@@ -1,7 +1,8 @@
-//! The event buffer of the injector: it puts epochs together from the messages of data nodes.
+//! The event buffer of the injector: it assembles epochs from the messages of data nodes.
 //!
-//! A buffer stands for what it was fed (`StandsFor`): the last epoch that was taken from it, and all messages that it received.
-//! Each answer is a fact on those. Below stand the definitions of what is received and missing.
+//! A buffer represents what it was fed (`StandsFor`): the last epoch taken from it, and all
+//! messages that it received. Each result is a fact on those. The definitions of what is received
+//! and missing stand below.
 #![tactic(auto)]
 
 mod buffer;
@@ -10,6 +11,3 @@ mod gathered;
 
 pub use buffer::EventBuffer;
 pub use rb_message_defs::{Assembled, Missing, Received};
-
-#[cfg(test)]
-mod tests;

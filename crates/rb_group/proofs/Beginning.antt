@@ -1,4 +1,4 @@
--- A new group, and one behind its first changes, can do what it is asked.
+-- A new group, and one after its first changes, can do what it is asked.
 use Rattle.std.proofs.Common.{◌≡◌, ◌⊎◌, inl, inr, ℕ, ◌+◌, ◌-◌, ◌^◌, ◌<◌, ◌≤◌, zero, suc, Bool, true, false, List, [], ◌∷◌, ◌++◌, length, refl, subst, ap, ◌∙◌, arith, add-one}
 use Rattle.std.specs.Prelude.{◌==◌, ◌&&◌, if◌then◌else◌, nat_le, Option, Some, None, replicate, unwrap_or}
 use Rattle.std.specs.List.{slice_get}
@@ -43,7 +43,7 @@ new_covers first nodes opened bucket is =
 pub new_fits : (first nodes opened : ℕ) → AllFit (new_group first nodes opened)
 new_fits first nodes opened epoch bucket = omega arith
 
--- and one change more
+-- and one more change
 pub part_fits : (kept : Kept) (bucket : ℕ) (change : Change) → AllFit kept → length (kept.changes kept.opened bucket) < 2 ^ 32 - 1 → AllFit (with_part bucket change kept)
 part_fits kept bucket change fits room e b = go (cases_eq kept.opened e) (cases_eq bucket b)
   where

@@ -19,7 +19,7 @@ use Rattle.rb_group.proofs.Lists.{map_more, flat_more, flat_filter_more, filter_
 use Rattle.rb_group.proofs.Holding.{held_here}
 use Rattle.rb_group.proofs.Standing.{held_node}
 
--- what is told of closed epochs that are all late enough
+-- what is said of closed epochs that are all late enough
 all_late : {X : Type 0} (since a n : ℕ) (f g : ℕ × ℕ → List X) (cs : List (ℕ × ℕ)) → since ≤ n → a < n → AllByRecursion (λ y. n < y) (map (λ close. close.0) cs) →
     ((close : ℕ × ℕ) → since ≤ close.0 → a < close.0 → f close ≡ g close) →
     flat_map f (filter (λ (close : ℕ × ℕ). nat_le since close.0 && nat_lt a close.0) cs) ≡ flat_map g (filter (λ (close : ℕ × ℕ). nat_lt a close.0) cs)
@@ -27,7 +27,7 @@ all_late since a n f g [] from above all same = refl
 all_late {X} since a n f g (c ∷ cs) from above all same =
     rw (le-leb since c.0 (omega (arith, all.0)), lt-ltb a c.0 (omega (arith, all.0)), same c (omega (arith, all.0)) (omega (arith, all.0)), all_late since a n f g cs from above all.1 same) refl
 
--- what is told of the closed epochs of a node that covers
+-- what is said of the closed epochs of a node that covers
 late_enough : {X : Type 0} (since a top : ℕ) (f g : ℕ × ℕ → List X) (cs : List (ℕ × ℕ)) → Rising top (map (λ close. close.0) cs) → since ≤ unwrap_or (find (nat_lt a) (map (λ close. close.0) cs)) top →
     ((close : ℕ × ℕ) → since ≤ close.0 → a < close.0 → f close ≡ g close) →
     flat_map f (filter (λ (close : ℕ × ℕ). nat_le since close.0 && nat_lt a close.0) cs) ≡ flat_map g (filter (λ (close : ℕ × ℕ). nat_lt a close.0) cs)
@@ -75,7 +75,7 @@ covering_messages since buffer kept bucket holds order covers =
     same close from above = ap (λ (cs : List Change). map (λ numbered. Part bucket (record { 0 = close.0 }) numbered.0 numbered.1) (enumerate_from 0 cs) ++ Done bucket (record { 0 = close.0 }) (record { 0 = close.1 }) (length cs) ∷ [])
         (held_here since buffer kept close.0 bucket holds from above)
 
--- what a node that covers sends again
+-- what a node that covers resends
 pub again_same : (group : Group) (kept : Kept) (sender bucket : ℕ) → Keeps group kept → IsNumberOf kept sender → covers_in kept sender ≡ true → again_in kept sender bucket ≡ again_of group sender bucket
 again_same group kept sender bucket keeps is covers = go (buffer_of group sender) (since_in kept sender) (held_node group kept sender keeps is) covers
   where
@@ -118,7 +118,7 @@ of_bucket buffer (Some since) kept bucket holds is = holds.buckets bucket is.0 i
 pub numbers_same : (group : Group) (kept : Kept) → Keeps group kept → numbers_of kept ≡ numbers_in group
 numbers_same group kept keeps = ap (λ (f : ℕ). numbers_from f (length kept.nodes)) (sym keeps.first) ∙ ap (λ (n : ℕ). numbers_from group.first n) (sym (ap length keeps.owners ∙ keeps.owner_count))
 
--- what is told of each number
+-- what is said of each number
 pub map_same : {X : Type 0} (f g : ℕ → X) (first n : ℕ) → ((k : ℕ) → k < n → f (first + k) ≡ g (first + k)) → map f (numbers_from first n) ≡ map g (numbers_from first n)
 map_same f g first zero same = refl
 map_same {X} f g first (suc n) same = let e = add-one n in

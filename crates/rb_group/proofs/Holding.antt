@@ -13,7 +13,7 @@ use Rattle.rb_group.specs.Kept.{Kept, HoldsFrom, HoldsNode, with_part, only_clos
 use Rattle.rb_group.specs.Group.{IsOrdered}
 use Rattle.rb_group.proofs.Lists.{rising_closes}
 
--- a node is up where there is a buffer, which knows its first epoch
+-- a node is up if it has a buffer, which knows its first epoch
 pub since_same : (b : Option BucketBuffer) (since : Option ℕ) (kept : Kept) → HoldsNode b since kept → since ≡ option_map node.since_of b
 since_same None None kept holds = refl
 since_same (Some b) (Some since) kept holds = ap Some (sym holds.since_is)
@@ -24,7 +24,7 @@ since_same (Some b) None kept holds = absurd holds
 pub held_here : (since : ℕ) (buffer : BucketBuffer) (kept : Kept) (e b : ℕ) → HoldsFrom since buffer kept → since ≤ e → kept.acknowledged < e → node.changes_kept buffer e b ≡ kept.changes e b
 held_here since buffer kept e b holds from above = holds.changes e b ∙ rw (le-leb since e from, lt-ltb kept.acknowledged e above) refl
 
--- one change more
+-- one more change
 pub holds_part : (since : ℕ) (old new : BucketBuffer) (bucket : ℕ) (change : Change) (kept : Kept) → HoldsFrom since old kept → since ≤ kept.opened → kept.acknowledged < kept.opened →
     ((e b : ℕ) → node.changes_kept new e b ≡ node.with_change kept.opened bucket change (node.changes_kept old) e b) → node.closes_kept new ≡ node.closes_kept old →
     node.since_of new ≡ node.since_of old → ((b : ℕ) → node.IsBucketOf old b → node.IsBucketOf new b) → HoldsFrom since new (with_part bucket change kept)
@@ -82,11 +82,11 @@ skips_close since buffer prev next kept holds early = record {
   buckets = holds.buckets;
 }
 
--- the closes behind an epoch of those behind a lower one
-closes_behind : (since a t : ℕ) (cs : List (ℕ × ℕ)) → a ≤ t →
+-- the closes after an epoch of those after a lower one
+closes_after : (since a t : ℕ) (cs : List (ℕ × ℕ)) → a ≤ t →
     filter (λ (close : ℕ × ℕ). nat_lt t close.0) (filter (λ (close : ℕ × ℕ). nat_le since close.0 && nat_lt a close.0) cs) ≡ filter (λ (close : ℕ × ℕ). nat_le since close.0 && nat_lt t close.0) cs
-closes_behind since a t [] below = refl
-closes_behind since a t (c ∷ cs) below = go (cases_lt c.0 since) (cases_lt t c.0) (cases_lt a c.0) (closes_behind since a t cs below)
+closes_after since a t [] below = refl
+closes_after since a t (c ∷ cs) below = go (cases_lt c.0 since) (cases_lt t c.0) (cases_lt a c.0) (closes_after since a t cs below)
   where
     go : (c.0 < since) ⊎ (since ≤ c.0) → (t < c.0) ⊎ (c.0 ≤ t) → (a < c.0) ⊎ (c.0 ≤ a) →
         filter (λ (close : ℕ × ℕ). nat_lt t close.0) (filter (λ (close : ℕ × ℕ). nat_le since close.0 && nat_lt a close.0) cs) ≡ filter (λ (close : ℕ × ℕ). nat_le since close.0 && nat_lt t close.0) cs →
@@ -108,7 +108,7 @@ pub holds_release : (since : ℕ) (old new : BucketBuffer) (through : ℕ) (kept
     node.since_of new ≡ node.since_of old → ((b : ℕ) → node.IsBucketOf old b → node.IsBucketOf new b) → HoldsFrom since new (with_acknowledged through kept)
 holds_release since old new through kept holds below forgotten closed stays buckets = record {
   changes = λ e b. forgotten e b ∙ go e b (cases_lt through e);
-  closes = closed ∙ ap (filter (λ (close : ℕ × ℕ). nat_lt through close.0)) holds.closes ∙ closes_behind since kept.acknowledged through kept.closes below;
+  closes = closed ∙ ap (filter (λ (close : ℕ × ℕ). nat_lt through close.0)) holds.closes ∙ closes_after since kept.acknowledged through kept.closes below;
   since_is = stays ∙ holds.since_is;
   buckets = λ b low high. buckets b (holds.buckets b low high);
 }

@@ -3,5 +3,5 @@ mod Holding
 mod Standing
 pub mod Covering
 mod Steps
-mod Beginning
+pub mod Beginning
 mod Owners

@@ -34,23 +34,23 @@ find_first {X} p (x ∷ xs) = go (p x) (find_first p xs)
     go true rest = refl
     go false rest = rest
 
--- one number more
+-- one more number
 pub numbers_more : (first n : ℕ) → numbers_from first (n + 1) ≡ numbers_from first n ++ (first + n) ∷ []
 numbers_more first n = rw (add-one n) (map-append (λ step. first + step) (numbers_below n) (n ∷ []))
 
--- what is told of one number more
+-- what is said of one more number
 pub map_more : {X : Type 0} (f : ℕ → X) (first n : ℕ) → map f (numbers_from first (n + 1)) ≡ map f (numbers_from first n) ++ f (first + n) ∷ []
 map_more f first n = ap (map f) (numbers_more first n) ∙ map-append f (numbers_from first n) ((first + n) ∷ [])
 
--- lists told of one number more
+-- lists made for one more number
 pub flat_more : {X : Type 0} (f : ℕ → List X) (first n : ℕ) → flat_map f (numbers_from first (n + 1)) ≡ flat_map f (numbers_from first n) ++ f (first + n)
 flat_more f first n = ap (flat_map f) (numbers_more first n) ∙ flat_map-append f (numbers_from first n) ((first + n) ∷ []) ∙ ap (λ ys. flat_map f (numbers_from first n) ++ ys) (append-nil (f (first + n)))
 
--- one number more that may pass
+-- one more number that may pass
 pub filter_more : (p : ℕ → Bool) (first n : ℕ) → filter p (numbers_from first (n + 1)) ≡ filter p (numbers_from first n) ++ (if p (first + n) then (first + n) ∷ [] else [])
 filter_more p first n = ap (filter p) (numbers_more first n) ∙ filter-append p (numbers_from first n) ((first + n) ∷ [])
 
--- lists told of one number more that may pass
+-- lists made for one more number that may pass
 pub flat_filter_more : {X : Type 0} (f : ℕ → List X) (p : ℕ → Bool) (first n : ℕ) →
     flat_map f (filter p (numbers_from first (n + 1))) ≡ flat_map f (filter p (numbers_from first n)) ++ (if p (first + n) then f (first + n) else [])
 flat_filter_more {X} f p first n = ap (flat_map f) (filter_more p first n) ∙ flat_map-append f (filter p (numbers_from first n)) (if p (first + n) then (first + n) ∷ [] else [])
@@ -65,11 +65,11 @@ pub numbers_count : (first n : ℕ) → length (numbers_from first n) ≡ n
 numbers_count first zero = refl
 numbers_count first (suc n) = ap length (map-append (λ step. first + step) (numbers_below n) (n ∷ [])) ∙ length-append (numbers_from first n) ((first + n) ∷ []) ∙ ap (λ (k : ℕ). k + 1) (numbers_count first n) ∙ add-one n
 
--- what stands at a place
+-- the item at a place
 pub there : {X : Type 0} (xs : List X) (k : ℕ) (d : X) → k < length xs → slice_get xs k ≡ Some (unwrap_or (slice_get xs k) d)
 there xs k d within = slice_get-get_or xs k d within ∙ ap Some (sym (unwrap_or-slice_get xs k d))
 
--- the items behind the one that is written are as they were
+-- the items after the one that is written are unchanged
 pub todo_next : {X : Type 0} (first now : List X) (at : ℕ) (new : X) → at < length now → ((k : ℕ) → at ≤ k → slice_get now k ≡ slice_get first k) →
     (k : ℕ) → at + 1 ≤ k → slice_get (set now at new) k ≡ slice_get first k
 todo_next first now at new within todo k above = slice_get_set now at new k within ∙ rw (ne_eqb at k (λ same. omega arith)) (todo k (omega arith))
@@ -87,16 +87,16 @@ done_next {X} P now at new within here done k x below is = go (cases_eq at k) (s
     go (inr differs) found = done k x (omega arith) (sym (ap (λ (b : Bool). cond b (Some new) (slice_get now k)) (ne_eqb at k differs)) ∙ found)
 
 -- numbers above one, of those above a lower one
-pub behind : (a t : ℕ) (xs : List ℕ) → a ≤ t → filter (nat_lt t) (filter (nat_lt a) xs) ≡ filter (nat_lt t) xs
-behind a t [] below = refl
-behind a t (x ∷ xs) below = go (cases_lt t x) (cases_lt a x) (behind a t xs below)
+pub following : (a t : ℕ) (xs : List ℕ) → a ≤ t → filter (nat_lt t) (filter (nat_lt a) xs) ≡ filter (nat_lt t) xs
+following a t [] below = refl
+following a t (x ∷ xs) below = go (cases_lt t x) (cases_lt a x) (following a t xs below)
   where
     go : (t < x) ⊎ (x ≤ t) → (a < x) ⊎ (x ≤ a) → filter (nat_lt t) (filter (nat_lt a) xs) ≡ filter (nat_lt t) xs → filter (nat_lt t) (filter (nat_lt a) (x ∷ xs)) ≡ filter (nat_lt t) (x ∷ xs)
     go (inl above) _ rest = rw (lt-ltb a x (omega arith), lt-ltb t x above, rest) refl
     go (inr under) (inl above) rest = rw (lt-ltb a x above, le-ltb t x under) rest
     go (inr under) (inr old) rest = rw (le-ltb a x old, le-ltb t x under) rest
 
--- where the first of rising epochs is above one, all are
+-- if the first of rising epochs is above one, all are
 all_later : (top through x : ℕ) (xs : List ℕ) → Rising top (x ∷ xs) → through < x → x ∷ xs ≡ filter (nat_lt through) (x ∷ xs)
 all_later top through x [] rising later = rw (lt-ltb through x later) refl
 all_later top through x (y ∷ ys) rising later = rw (lt-ltb through x later) (ap (λ (rest : List ℕ). x ∷ rest) (all_later top through y ys rising.2 (omega (arith, later, rising.1.0))))
@@ -121,7 +121,7 @@ replicate_count (suc n) x = ap suc (replicate_count n x)
 pub numbers_all : (P : ℕ → Type 0) (first n : ℕ) → ((k : ℕ) → k < n → P (first + k)) → AllByRecursion P (numbers_from first n)
 numbers_all P first n each = all_mapped P (λ step. first + step) (numbers_below n) (all_below {P = λ k. P (first + k)} n each)
 
--- the first of some numbers, and those behind it
+-- the first of some numbers, and those after it
 numbers_cons : (start n : ℕ) → numbers_from start (suc n) ≡ start ∷ numbers_from (start + 1) n
 numbers_cons start zero = let e : start + 0 ≡ start = omega arith in ap (λ (k : ℕ). k ∷ []) e
 numbers_cons start (suc n) =
@@ -169,7 +169,7 @@ numbers_under first number (suc n) d at low = go (cases_lt n d) (λ less. number
         (filter_more (λ other. nat_lt other number) first n ∙ ap (λ (xs : List ℕ). xs ++ (if nat_lt (first + n) number then (first + n) ∷ [] else [])) (rest less)
         ∙ ap (λ (t : Bool). numbers_from first d ++ (if t then (first + n) ∷ [] else [])) (le-ltb (first + n) number (omega arith)) ∙ append-nil (numbers_from first d))
 
--- what is found of some numbers, where the first passes or not
+-- what is found in some numbers, if the first passes or not
 pub numbers_found : (p : ℕ → Bool) (start n : ℕ) → 0 < n → p start ≡ true → find p (numbers_from start n) ≡ Some start
 numbers_found p start zero some passes = absurd (omega arith)
 numbers_found p start (suc n) some passes = ap (find p) (numbers_cons start n) ∙ rw passes refl

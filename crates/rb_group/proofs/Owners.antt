@@ -9,7 +9,7 @@ use Rattle.std.proofs.lemmas.Option.{slice_get-map}
 use Rattle.rb_message_defs.specs.Message.{home_node}
 use Rattle.rb_message_defs.proofs.Messages.{all_joined}
 use Rattle.rb_bucket.specs.Bucket.{Rising}
-use Rattle.rb_group.specs.Kept.{Kept, numbers_of, since_in, owner_in, needed_in, covers_in, returns_in, others_behind, successor_in, only_closed, with_close, with_since, with_takeover, with_acknowledged}
+use Rattle.rb_group.specs.Kept.{Kept, numbers_of, since_in, owner_in, needed_in, covers_in, returns_in, others_after, successor_in, only_closed, with_close, with_since, with_takeover, with_acknowledged}
 use Rattle.rb_group.specs.Group.{AllCover, IsNumberOf, IsOrdered}
 use Rattle.rb_group.proofs.Lists.{there, found_in}
 use Rattle.rb_group.proofs.Standing.{at_place, since_at, nodes_count}
@@ -42,7 +42,7 @@ covers_closed kept prev next number above is =
     (close_rises kept.acknowledged kept.opened next (map (λ close. close.0) kept.closes) above))
     is
 
--- behind a close: a bucket stays, or goes back to a home node that covers
+-- after a close: a bucket stays, or returns to a home node that covers
 pub close_covers : (kept : Kept) (prev next : ℕ) → AllCover kept → kept.opened < next → AllCover (with_close prev next kept)
 close_covers kept prev next cover above bucket is =
     ap (covers_in ended) owner ∙ go (returns_in ended bucket) refl
@@ -50,13 +50,13 @@ close_covers kept prev next cover above bucket is =
     ended : Kept
     ended = only_closed prev next kept
 
-    behind : ℕ → ℕ
-    behind b = if returns_in ended b then home_node b else owner_in kept b
+    following : ℕ → ℕ
+    following b = if returns_in ended b then home_node b else owner_in kept b
 
-    owner : owner_in (with_close prev next kept) bucket ≡ behind bucket
+    owner : owner_in (with_close prev next kept) bucket ≡ following bucket
     owner = ap (λ (o : Option ℕ). unwrap_or o bucket)
-        (slice_get-map behind (numbers_of kept) (bucket - kept.first) ∙ ap (option_map behind) (number_at kept.first (length kept.nodes) (bucket - kept.first) (omega (arith, is.0, is.1))))
-        ∙ ap behind (let same : kept.first + (bucket - kept.first) ≡ bucket = omega (arith, is.0) in same)
+        (slice_get-map following (numbers_of kept) (bucket - kept.first) ∙ ap (option_map following) (number_at kept.first (length kept.nodes) (bucket - kept.first) (omega (arith, is.0, is.1))))
+        ∙ ap following (let same : kept.first + (bucket - kept.first) ≡ bucket = omega (arith, is.0) in same)
 
     go : (t : Bool) → returns_in ended bucket ≡ t → covers_in ended (if t then home_node bucket else owner_in kept bucket) ≡ true
     go true returns = (and_parts (not (owner_in ended bucket == home_node bucket)) (covers_in ended (home_node bucket)) returns).1
@@ -78,7 +78,7 @@ covers_stays kept number other since differs = ap (λ (o : Option ℕ). option_m
 still_is : (kept : Kept) (number bucket : ℕ) (since : Option ℕ) → IsNumberOf (with_since number since kept) bucket → IsNumberOf kept bucket
 still_is kept number bucket since is = let count = nodes_count kept.first number 0 since kept.nodes in (is.0, omega (arith, is.1))
 
--- behind a restart: a node that is down owned nothing
+-- after a restart: a node that is down owned nothing
 pub restart_covers : (kept : Kept) (number : ℕ) → AllCover kept → since_in kept number ≡ None → AllCover (with_since number (Some (kept.opened + 1)) kept)
 restart_covers kept number cover none bucket is = covers_stays kept number (owner_in kept bucket) (Some (kept.opened + 1)) differs ∙ covers
   where
@@ -104,13 +104,13 @@ passing P test (x ∷ xs) says = go (test x) refl (passing P test xs says)
 -- a successor is another node
 successor_differs : (kept : Kept) (number successor : ℕ) → successor_in kept number ≡ Some successor → successor ≡ number → ⊥
 successor_differs kept number successor found =
-    found_in (λ other. other ≡ number → ⊥) (covers_in kept) (others_behind kept number) successor
+    found_in (λ other. other ≡ number → ⊥) (covers_in kept) (others_after kept number) successor
     (all_joined (λ other. other ≡ number → ⊥) (filter (nat_lt number) (numbers_of kept)) (filter (λ other. nat_lt other number) (numbers_of kept))
     (passing (λ other. other ≡ number → ⊥) (nat_lt number) (numbers_of kept) (λ x passes same. let l = ltb-true number x passes in omega arith))
     (passing (λ other. other ≡ number → ⊥) (λ other. nat_lt other number) (numbers_of kept) (λ x passes same. let l = ltb-true x number passes in omega arith)))
     found
 
--- behind a takeover: the failed node's buckets go to one that covers
+-- after a takeover: the failed node's buckets go to one that covers
 pub takeover_covers : (kept : Kept) (number successor : ℕ) → length kept.owners ≡ length kept.nodes → AllByRecursion (IsNumberOf kept) kept.owners → AllCover kept → successor_in kept number ≡ Some successor →
     AllCover (with_takeover number successor kept)
 takeover_covers kept number successor count all cover found bucket is =
@@ -140,7 +140,8 @@ takeover_covers kept number successor count all cover found bucket is =
     go (inr differs) = ap (λ (t : Bool). covers_in failed (if t then successor else owner_in kept bucket)) (ne_eqb (owner_in kept bucket) number differs)
         ∙ still (owner_in kept bucket) (at_place (IsNumberOf kept) kept.owners (bucket - kept.first) bucket all within).0 differs (cover bucket here)
 
--- what is below all of some numbers, and below what is above them, is not above the first of them that passes
+-- what is below all of some numbers, and below what is above them, is not above the first of them
+-- that passes
 least_found : (x top : ℕ) (test : ℕ → Bool) (xs : List ℕ) → x < top → AllByRecursion (λ y. x < y) xs → x ≤ unwrap_or (find test xs) top
 least_found x top test [] below all = omega arith
 least_found x top test (y ∷ ys) below all = go (test y) (least_found x top test ys below all.1)
@@ -160,7 +161,7 @@ acknowledged_rises a b top (x ∷ xs) more rising = go (cases_lt a x) (cases_lt 
     go (inr low) (inl over) rest = absurd (omega arith)
     go (inr low) (inr under) rest = rw (le-ltb a x low, le-ltb b x under) rest
 
--- behind an acknowledgement
+-- after an acknowledgement
 pub acknowledgement_covers : (kept : Kept) (through : ℕ) → IsOrdered kept → AllCover kept → kept.acknowledged ≤ through → AllCover (with_acknowledged through kept)
 acknowledgement_covers kept through order cover later bucket is =
     covers_more (needed_in kept) (needed_in (with_acknowledged through kept)) (since_in kept (owner_in kept bucket))

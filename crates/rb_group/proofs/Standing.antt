@@ -1,4 +1,4 @@
--- What a group stands for: read off its value, and kept from one value to the next.
+-- What a group represents: read off its value, and kept from one value to the next.
 use Rattle.std.proofs.Common.{◌≡◌, ◌⊎◌, inl, inr, ℕ, ◌+◌, ◌-◌, ◌<◌, ◌≤◌, zero, suc, Bool, true, false, List, [], ◌∷◌, length, map, set, refl, subst, sym, ap, ◌∙◌, arith}
 use Rattle.std.specs.Prelude.{◌==◌, if◌then◌else◌, nat_le, nat_lt, max, Option, Some, None, filter, unwrap_or, is_some}
 use Rattle.std.specs.List.{slice_get, AllByRecursion, enumerate_from}
@@ -13,7 +13,7 @@ use Rattle.rb_group.specs.declared.group.Group.{Group}
 use Rattle.rb_group.specs.Kept.{Kept, HoldsNode, since_in, owner_in, needed_in, covers_in, with_since, with_acknowledged}
 use Rattle.rb_group.specs.Group.{Keeps, IsNumberOf}
 use Rattle.rb_group.specs.Nodes.{AllHold, IsIn, epoch_numbers, needed_of, buffer_of, covers_of, owner_of}
-use Rattle.rb_group.proofs.Lists.{there, find_first, some_is, slice_get_set, behind}
+use Rattle.rb_group.proofs.Lists.{there, find_first, some_is, slice_get_set, following}
 use Rattle.rb_group.proofs.Holding.{since_same}
 
 -- a number of what it keeps is one of the group
@@ -147,7 +147,7 @@ keeps_acknowledged old new kept through keeps later below first opened acknowled
   some = keeps.some;
   fits = keeps.fits;
   order = record { closes = keeps.order.closes; acknowledged = below; later = keeps.order.later };
-  closed = closed ∙ ap (filter (nat_lt through)) keeps.closed ∙ behind kept.acknowledged through (map (λ close. close.0) kept.closes) later;
+  closed = closed ∙ ap (filter (nat_lt through)) keeps.closed ∙ following kept.acknowledged through (map (λ close. close.0) kept.closes) later;
   countable = (let h = keeps.countable in let size : length new.owners.items ≡ length old.owners.items = ap (λ v. length v.items) owners in omega arith);
 }
 

@@ -1,4 +1,4 @@
--- A group's steps: what it sends, and what it keeps behind them.
+-- A group's steps: what it sends, and what it keeps after them.
 use Rattle.std.proofs.Common.{◌≡◌, ℕ, ◌+◌, ◌-◌, ◌<◌, Bool, true, false, cond, List, [], ◌∷◌, ◌++◌, length, map, set, refl, subst, sym, ap, ◌∙◌, arith}
 use Rattle.std.specs.Prelude.{◌==◌, ◌&&◌, not, if◌then◌else◌, nat_lt, Option, Some, None, filter}
 use Rattle.std.specs.List.{slice_get, find, flat_map, AllByRecursion, enumerate_from}
@@ -16,9 +16,9 @@ use Rattle.rb_message_defs.proofs.Messages.{all_mapped, all_joined}
 use Rattle.rb_bucket.specs.Bucket.{Rising}
 use Rattle.rb_bucket.specs.declared.bucket.BucketBuffer.{BucketBuffer}
 use Rattle.rb_group.specs.declared.group.Group.{Group}
-use Rattle.rb_group.specs.Kept.{Kept, HoldsNode, numbers_of, owner_in, covers_in, returns_in, done_in, again_in, only_closed, with_close, with_since, with_takeover, sent_at_close, sent_at_resend, sent_at_takeover, others_behind, successor_in, owned_in}
+use Rattle.rb_group.specs.Kept.{Kept, HoldsNode, numbers_of, owner_in, covers_in, returns_in, done_in, again_in, only_closed, with_close, with_since, with_takeover, sent_at_close, sent_at_resend, sent_at_takeover, others_after, successor_in, owned_in}
 use Rattle.rb_group.specs.Group.{Keeps, IsNumberOf, AllCover, part_sent}
-use Rattle.rb_group.specs.Nodes.{AllHold, IsIn, numbers_from, numbers_in, covers_of, owner_of, count_of, again_of, done_of, returns_of, returned_of, owner_behind, others_of, owned_of, taken_of}
+use Rattle.rb_group.specs.Nodes.{AllHold, IsIn, numbers_from, numbers_in, covers_of, owner_of, count_of, again_of, done_of, returns_of, returned_of, owner_after, others_of, owned_of, taken_of}
 use Rattle.rb_group.proofs.Lists.{numbers_count, numbers_all, numbers_above, numbers_under, find_passes, found_in, all_filter, find_same_in, rising_more}
 use Rattle.rb_group.proofs.Standing.{also_is, covers_same, owner_same, owner_is_in, moved_nodes, keeps_moved, set_holds, nodes_count}
 use Rattle.rb_group.proofs.Covering.{again_same, count_same, numbers_same, map_same, flat_same, flat_filter_same, filter_same}
@@ -40,7 +40,7 @@ one_of group kept k keeps below =
     let a = keeps.first in
     (omega arith, omega arith)
 
--- what the owner of a bucket sends again
+-- what the owner of a bucket resends
 owner_again : (group : Group) (kept : Kept) (bucket : ℕ) → Keeps group kept → IsNumberOf kept bucket → covers_in kept (owner_in kept bucket) ≡ true → again_in kept (owner_in kept bucket) bucket ≡ again_of group (owner_of group bucket) bucket
 owner_again group kept bucket keeps is covers =
     again_same group kept (owner_in kept bucket) bucket keeps (owner_is_in group kept bucket keeps is) covers ∙ ap (λ (n : ℕ). again_of group n bucket) (owner_same group kept bucket keeps)
@@ -135,27 +135,27 @@ keeps_closed old new kept prev next keeps above first opened acknowledged owners
   countable = (let h = keeps.countable in let size : length new.owners.items ≡ length old.owners.items = ap (λ v. length v.items) owners in omega arith);
 }
 
--- and buckets go back
+-- and buckets return
 pub keeps_returned : (mid new : Group) (kept : Kept) (prev next : ℕ) → Keeps mid (only_closed prev next kept) → new.first ≡ mid.first → new.opened ≡ mid.opened → new.acknowledged ≡ mid.acknowledged → new.closed ≡ mid.closed → new.buffers ≡ mid.buffers →
-    new.owners.items ≡ map (owner_behind mid) (numbers_in mid) → Keeps new (with_close prev next kept)
+    new.owners.items ≡ map (owner_after mid) (numbers_in mid) → Keeps new (with_close prev next kept)
 keeps_returned mid new kept prev next after first opened acknowledged closed buffers owners =
-    keeps_moved mid new ended kept.nodes (map behind (numbers_of kept)) after first opened acknowledged closed
-    (owners ∙ sym (ap (map behind) (numbers_same mid ended after) ∙ map_same behind (owner_behind mid) mid.first (length mid.owners.items) (λ k below. same (mid.first + k) (one_of mid ended k after below))))
-    (length-map (numbers_of kept) behind ∙ numbers_count kept.first (length kept.nodes) ∙ sym after.owner_count)
-    (all_mapped (IsNumberOf ended) behind (numbers_of kept) (numbers_all (λ bucket. IsNumberOf ended (behind bucket)) kept.first (length kept.nodes) (λ k below. inside (kept.first + k) (omega arith, omega arith))))
+    keeps_moved mid new ended kept.nodes (map following (numbers_of kept)) after first opened acknowledged closed
+    (owners ∙ sym (ap (map following) (numbers_same mid ended after) ∙ map_same following (owner_after mid) mid.first (length mid.owners.items) (λ k below. same (mid.first + k) (one_of mid ended k after below))))
+    (length-map (numbers_of kept) following ∙ numbers_count kept.first (length kept.nodes) ∙ sym after.owner_count)
+    (all_mapped (IsNumberOf ended) following (numbers_of kept) (numbers_all (λ bucket. IsNumberOf ended (following bucket)) kept.first (length kept.nodes) (λ k below. inside (kept.first + k) (omega arith, omega arith))))
     refl (ap (λ v. length v.items) buffers)
-    (λ k b s at_b at_s. moved_nodes b s ended kept.nodes (map behind (numbers_of kept)) refl (after.nodes k b s (ap (λ v. slice_get v.items k) (sym buffers) ∙ at_b) at_s))
+    (λ k b s at_b at_s. moved_nodes b s ended kept.nodes (map following (numbers_of kept)) refl (after.nodes k b s (ap (λ v. slice_get v.items k) (sym buffers) ∙ at_b) at_s))
   where
     ended : Kept
     ended = only_closed prev next kept
 
-    behind : ℕ → ℕ
-    behind bucket = if returns_in ended bucket then home_node bucket else owner_in kept bucket
+    following : ℕ → ℕ
+    following bucket = if returns_in ended bucket then home_node bucket else owner_in kept bucket
 
-    same : (bucket : ℕ) → IsNumberOf ended bucket → behind bucket ≡ owner_behind mid bucket
+    same : (bucket : ℕ) → IsNumberOf ended bucket → following bucket ≡ owner_after mid bucket
     same bucket is = ap (λ (t : Bool). if t then bucket else owner_in kept bucket) (returns_same mid ended bucket after is) ∙ ap (λ (n : ℕ). if returns_of mid bucket then bucket else n) (owner_same mid ended bucket after)
 
-    inside : (bucket : ℕ) → IsNumberOf ended bucket → IsNumberOf ended (behind bucket)
+    inside : (bucket : ℕ) → IsNumberOf ended bucket → IsNumberOf ended (following bucket)
     inside bucket is = go (returns_in ended bucket)
       where
         go : (t : Bool) → IsNumberOf ended (if t then bucket else owner_in kept bucket)
@@ -174,7 +174,7 @@ successor_same group kept number keeps =
     same : (q : ℕ → Bool) → find (covers_in kept) (filter q (numbers_in group)) ≡ find (covers_of group) (filter q (numbers_in group))
     same q = find_same_in (covers_in kept) (covers_of group) q group.first (length group.owners.items) (λ k below. covers_same group kept (group.first + k) keeps (one_of group kept k keeps below))
 
--- found by going over the nodes behind one, and then those before
+-- found by going over the nodes after one, and then those before
 pub successor_found : (group : Group) (number : ℕ) → IsIn group number → find (covers_of group) (others_of group number)
     ≡ option_or (find (covers_of group) (numbers_from (group.first + (number - group.first + 1)) (length group.owners.items - (number - group.first + 1)))) (find (covers_of group) (numbers_from (group.first + 0) (number - group.first - 0)))
 successor_found group number is =
@@ -192,14 +192,14 @@ successor_found group number is =
 
 -- a successor is one of the nodes, and covers
 pub successor_is_in : (kept : Kept) (number successor : ℕ) → successor_in kept number ≡ Some successor → IsNumberOf kept successor
-successor_is_in kept number successor found = found_in (IsNumberOf kept) (covers_in kept) (others_behind kept number) successor
+successor_is_in kept number successor found = found_in (IsNumberOf kept) (covers_in kept) (others_after kept number) successor
     (all_joined (IsNumberOf kept) (filter (nat_lt number) (numbers_of kept)) (filter (λ other. nat_lt other number) (numbers_of kept)) (all_filter (IsNumberOf kept) (nat_lt number) (numbers_of kept) all) (all_filter (IsNumberOf kept) (λ other. nat_lt other number) (numbers_of kept) all)) found
   where
     all : AllByRecursion (IsNumberOf kept) (numbers_of kept)
     all = numbers_all (IsNumberOf kept) kept.first (length kept.nodes) (λ k below. (omega arith, omega arith))
 
 pub successor_covers : (kept : Kept) (number successor : ℕ) → successor_in kept number ≡ Some successor → covers_in kept successor ≡ true
-successor_covers kept number successor found = find_passes (covers_in kept) (others_behind kept number) successor found
+successor_covers kept number successor found = find_passes (covers_in kept) (others_after kept number) successor found
 
 -- the buckets that a node owns
 pub owned_is : (group : Group) (kept : Kept) (number : ℕ) → Keeps group kept → owned_of group number ≡ owned_in kept number

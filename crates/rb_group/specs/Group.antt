@@ -1,4 +1,4 @@
--- What a group's value stands for, and what its calls need and answer.
+-- What a group's value represents, and what its calls need and return.
 use Rattle.std.specs.Prelude.{◌≡◌, ℕ, ◌+◌, ◌-◌, ◌/◌, ◌<◌, ◌≤◌, ◌^◌, true, [], map, filter, nat_lt, length, Option, Some, None, is_some}
 use Rattle.std.specs.List.{AllByRecursion, slice_get}
 use Rattle.rb_base.specs.declared.epoch.Epoch.{Epoch}
@@ -14,7 +14,8 @@ use Rattle.rb_group.specs.declared.answers.FailOutcome.TheVariants as outcomes
 use Rattle.rb_group.specs.declared.answers.GroupFault.{GroupFault}
 use Rattle.rb_group.specs.declared.answers.GroupFault.TheVariants as faults
 
--- closed epochs rise below the open one, of which the acknowledged one is below; nothing was done in a later epoch
+-- closed epochs rise and are below the open one; so is the acknowledged one; nothing was done in a
+-- later epoch
 pub record IsOrdered (kept : Kept) : Type 0 where
   pub closes : Rising kept.opened (map (λ close. close.0) kept.closes)
   pub acknowledged : kept.acknowledged < kept.opened
@@ -24,7 +25,7 @@ pub record IsOrdered (kept : Kept) : Type 0 where
 abbrev pub IsNumberOf : Kept → (number : ℕ) → Type 0
 IsNumberOf kept number = (kept.first ≤ number) × (number < kept.first + length kept.nodes)
 
--- a group stands for this: each node that is up has buffered its share
+-- a group represents this: each node that is up has buffered its share
 pub record Keeps (group : Group) (kept : Kept) : Type 0 where
   pub first : group.first ≡ kept.first
   pub opened : group.opened.0 ≡ kept.opened
@@ -55,7 +56,7 @@ abbrev pub CanCommit : Group → (bucket : ℕ) → Type 0
 CanCommit group bucket =
     (kept : Kept) × Keeps group kept × IsNumberOf kept bucket × (covers_in kept (owner_in kept bucket) ≡ true) × (length (kept.changes kept.opened bucket) < 2 ^ 32 - 1)
 
--- what it sends
+-- the message that it sends
 abbrev pub part_sent : Kept → (bucket : ℕ) → Change → Sent
 part_sent kept bucket change = record { sender = owner_in kept bucket; message = Part bucket (record { 0 = kept.opened }) (length (kept.changes kept.opened bucket)) change }
 
@@ -79,7 +80,7 @@ CanRestart group number = (kept : Kept) × Keeps group kept × IsNumberOf kept n
 abbrev pub CanAcknowledge : Group → (through : ℕ) → Type 0
 CanAcknowledge group through = (kept : Kept) × Keeps group kept × (through < kept.opened)
 
--- what a failure leaves: the next node that covers took over, or none does and the group is lost
+-- what a failure leaves: the next node that covers took over, or none covers and the group is lost
 abbrev pub FailsTo : Kept → (number : ℕ) → FailOutcome → (new : Group) → Type 0
 FailsTo kept number (outcomes.Takeover count sent) new =
     (successor : ℕ) × (successor_in kept number ≡ Some successor) × (count ≡ length (owned_in kept number)) × (sent ≡ sent_at_takeover number successor kept)
@@ -93,7 +94,7 @@ FailFault kept number (faults.NodeDown other) = (other ≡ number) × (since_in 
 FailFault kept number (faults.NodeUp other) = ⊥
 FailFault kept number faults.NoMemory = Unit {0}
 
--- why a node does not start again
+-- why a node does not restart
 abbrev pub RestartFault : Kept → (number : ℕ) → GroupFault → Type 0
 RestartFault kept number (faults.NodeDown other) = ⊥
 RestartFault kept number (faults.NodeUp other) = (other ≡ number) × (is_some (since_in kept number) ≡ true)

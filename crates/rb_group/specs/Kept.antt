@@ -1,4 +1,5 @@
--- What a group stands for: what was done in it, which of its nodes are up, and what each of them has buffered.
+-- What a group represents: what was done in it, which of its nodes are up, and what each has
+-- buffered.
 use Rattle.std.specs.Prelude.{◌≡◌, ℕ, ◌+◌, ◌-◌, ◌==◌, ◌<◌, ◌≤◌, nat_le, nat_lt, ◌&&◌, not, Bool, false, if◌then◌else◌, List, [], ◌∷◌, ◌++◌, length, map, filter, replicate, Option, Some, None, unwrap_or}
 use Rattle.std.specs.List.{enumerate_from, find, flat_map, slice_get}
 use Rattle.std.specs.Option.{option_map_or}
@@ -12,9 +13,10 @@ use Rattle.rb_message_defs.specs.Nodes.{sent_from}
 use Rattle.rb_bucket.specs.Bucket as node
 use Rattle.rb_bucket.specs.declared.bucket.BucketBuffer.{BucketBuffer}
 
--- the lowest bucket, which is the lowest node too; the open epoch, and the acknowledged one; the changes of each bucket in each
--- epoch, in order, and the closed epochs, each with the one that was closed before it, the oldest first; for each node from which
--- epoch on it buffers, where it is up; and the owner of each bucket
+-- the lowest bucket, which is also the lowest node; the open epoch and the acknowledged one; the
+-- changes of each bucket in each epoch, in order; the closed epochs, each with the one closed
+-- before it, the oldest first; for each node that is up, the first epoch that it buffers; and the
+-- owner of each bucket
 pub record Kept : Type 0 where
   pub first : ℕ
   pub opened : ℕ
@@ -24,11 +26,11 @@ pub record Kept : Type 0 where
   pub nodes : List (Option ℕ)
   pub owners : List ℕ
 
--- the numbers of its buckets, and of its nodes
+-- the numbers of its buckets, and so of its nodes
 abbrev pub numbers_of : Kept → List ℕ
 numbers_of kept = map (λ step. kept.first + step) (numbers_below (length kept.nodes))
 
--- so many nodes at the start: all are up, and each owns the bucket of its number
+-- a new group of `nodes` nodes: all are up, and each owns the bucket of its number
 abbrev pub new_group : (first nodes opened : ℕ) → Kept
 new_group first nodes opened = record {
   first = first;
@@ -40,7 +42,7 @@ new_group first nodes opened = record {
   owners = map (λ step. first + step) (numbers_below nodes);
 }
 
--- from which epoch on a node buffers, where it is up
+-- the first epoch that a node buffers, if it is up
 abbrev pub since_in : Kept → (number : ℕ) → Option ℕ
 since_in kept number = unwrap_or (slice_get kept.nodes (number - kept.first)) None
 
@@ -48,22 +50,23 @@ since_in kept number = unwrap_or (slice_get kept.nodes (number - kept.first)) No
 abbrev pub owner_in : Kept → (bucket : ℕ) → ℕ
 owner_in kept bucket = unwrap_or (slice_get kept.owners (bucket - kept.first)) (home_node bucket)
 
--- the oldest epoch that may have to be sent again: where a closed one is not acknowledged, the first of these, else the open one
+-- the needed epoch, the oldest that may have to be resent: the first unacknowledged closed epoch,
+-- or else the open one
 abbrev pub needed_in : Kept → ℕ
 needed_in kept = unwrap_or (find (nat_lt kept.acknowledged) (map (λ close. close.0) kept.closes)) kept.opened
 
--- a node covers: it is up, and began to buffer no later than with the needed epoch
+-- a node covers: it is up, and buffers the needed epoch
 abbrev pub covers_in : Kept → (number : ℕ) → Bool
 covers_in kept number = option_map_or (λ since. nat_le since (needed_in kept)) (since_in kept number) false
 
--- a node that buffers from an epoch on holds what was done in it from there on, and was not acknowledged
+-- a node that buffers from an epoch on holds everything unacknowledged from that epoch on
 pub record HoldsFrom (since : ℕ) (buffer : BucketBuffer) (kept : Kept) : Type 0 where
   pub changes : (e b : ℕ) → node.changes_kept buffer e b ≡ (if nat_le since e && nat_lt kept.acknowledged e then kept.changes e b else [])
   pub closes : node.closes_kept buffer ≡ filter (λ close. nat_le since close.0 && nat_lt kept.acknowledged close.0) kept.closes
   pub since_is : node.since_of buffer ≡ since
   pub buckets : (b : ℕ) → kept.first ≤ b → b < kept.first + length kept.nodes → node.IsBucketOf buffer b
 
--- a node's buffer: there is one where it is up
+-- a node has a buffer if it is up
 abbrev pub HoldsNode : Option BucketBuffer → Option ℕ → Kept → Type 0
 HoldsNode None None kept = Unit {0}
 HoldsNode (Some buffer) (Some since) kept = HoldsFrom since buffer kept
@@ -78,59 +81,60 @@ parts_in kept bucket epoch = map (λ numbered. Part bucket (record { 0 = epoch }
 abbrev pub done_in : Kept → (bucket : ℕ) → (close : ℕ × ℕ) → Message
 done_in kept bucket close = Done bucket (record { 0 = close.0 }) (record { 0 = close.1 }) (length (kept.changes close.0 bucket))
 
--- what is not acknowledged of a bucket
+-- the unacknowledged messages of a bucket
 abbrev pub unacknowledged_in : Kept → (bucket : ℕ) → List Message
 unacknowledged_in kept bucket =
     flat_map (λ close. parts_in kept bucket close.0 ++ done_in kept bucket close ∷ []) (filter (λ close. nat_lt kept.acknowledged close.0) kept.closes)
     ++ parts_in kept bucket kept.opened
 
--- what a node sends again of a bucket
+-- what a node resends of a bucket
 abbrev pub again_in : Kept → (sender bucket : ℕ) → List Sent
 again_in kept sender bucket = sent_from sender (unacknowledged_in kept bucket)
 
--- a bucket that goes back to its home node at a close
+-- a bucket that returns to its home node at a close
 abbrev pub returns_in : Kept → (bucket : ℕ) → Bool
 returns_in kept bucket = not (owner_in kept bucket == home_node bucket) && covers_in kept (home_node bucket)
 
--- one change more of a bucket in the open epoch
+-- after one more change of a bucket in the open epoch
 abbrev pub with_part : (bucket : ℕ) → Change → Kept → Kept
 with_part bucket change kept = record kept { changes = node.with_change kept.opened bucket change kept.changes }
 
--- the open epoch is closed, before which this one was, and the next one opens
+-- after the close of the open epoch, before which `prev` was closed; `next` opens
 abbrev pub only_closed : (prev next : ℕ) → Kept → Kept
 only_closed prev next kept = record kept { opened = next; closes = kept.closes ++ (kept.opened, prev) ∷ [] }
 
--- the same, with the buckets that return
+-- the same, with the buckets that return to their home nodes
 abbrev pub with_close : (prev next : ℕ) → Kept → Kept
 with_close prev next kept =
     let after = only_closed prev next kept in
     record after { owners = map (λ bucket. if returns_in after bucket then home_node bucket else owner_in kept bucket) (numbers_of kept) }
 
--- what a close sends: the owners tell the ends of the buckets, and the home nodes that get theirs back send them again
+-- what a close sends: the owners' Dones, then the resends of the home nodes that get their buckets
+-- back
 abbrev pub sent_at_close : (prev next : ℕ) → Kept → List Sent
 sent_at_close prev next kept =
     let after = only_closed prev next kept in
     map (λ bucket. record { sender = owner_in kept bucket; message = done_in kept bucket (kept.opened, prev) }) (numbers_of kept)
     ++ flat_map (λ bucket. again_in after bucket bucket) (filter (returns_in after) (numbers_of kept))
 
--- the other nodes, in cyclic order behind one
-abbrev pub others_behind : Kept → (number : ℕ) → List ℕ
-others_behind kept number = filter (nat_lt number) (numbers_of kept) ++ filter (λ other. nat_lt other number) (numbers_of kept)
+-- the other nodes, in cyclic order after one
+abbrev pub others_after : Kept → (number : ℕ) → List ℕ
+others_after kept number = filter (nat_lt number) (numbers_of kept) ++ filter (λ other. nat_lt other number) (numbers_of kept)
 
--- the node that takes a failed one's buckets over
+-- the node that takes over a failed one's buckets
 abbrev pub successor_in : Kept → (number : ℕ) → Option ℕ
-successor_in kept number = find (covers_in kept) (others_behind kept number)
+successor_in kept number = find (covers_in kept) (others_after kept number)
 
 -- the buckets that a node owns, ascending
 abbrev pub owned_in : Kept → (number : ℕ) → List ℕ
 owned_in kept number = filter (λ bucket. owner_in kept bucket == number) (numbers_of kept)
 
--- a node goes down, or comes up with an empty buffer
+-- after a node goes down, or comes up with an empty buffer
 abbrev pub with_since : (number : ℕ) → Option ℕ → Kept → Kept
 with_since number since kept =
     record kept { nodes = map (λ numbered. if kept.first + numbered.0 == number then since else numbered.1) (enumerate_from 0 kept.nodes) }
 
--- a node's buckets go to its successor
+-- after a node's buckets went to its successor
 abbrev pub with_takeover : (number successor : ℕ) → Kept → Kept
 with_takeover number successor kept =
     record (with_since number None kept) { owners = map (λ owner. if owner == number then successor else owner) kept.owners }
@@ -139,10 +143,10 @@ with_takeover number successor kept =
 abbrev pub sent_at_takeover : (number successor : ℕ) → Kept → List Sent
 sent_at_takeover number successor kept = flat_map (again_in kept successor) (owned_in kept number)
 
--- what the owners send again, the lowest bucket first
+-- what the owners resend, the lowest bucket first
 abbrev pub sent_at_resend : Kept → List Sent
 sent_at_resend kept = flat_map (λ bucket. again_in kept (owner_in kept bucket) bucket) (numbers_of kept)
 
--- all epochs up to one are acknowledged
+-- after all epochs up to one are acknowledged
 abbrev pub with_acknowledged : (through : ℕ) → Kept → Kept
 with_acknowledged through kept = record kept { acknowledged = through }

@@ -1,4 +1,4 @@
--- What a group's own functions answer, said of its value, and what they need.
+-- What a group's own functions return, in terms of its value, and what they need.
 use Rattle.std.specs.Prelude.{◌≡◌, ℕ, ◌+◌, ◌-◌, ◌==◌, ◌<◌, ◌≤◌, ◌^◌, nat_le, nat_lt, ◌++◌, not, ◌&&◌, Bool, false, if◌then◌else◌, List, [], map, filter, length, Option, Some, None, unwrap_or}
 use Rattle.std.specs.List.{slice_get, flat_map}
 use Rattle.std.specs.Option.{option_map_or}
@@ -21,7 +21,7 @@ AllHold buffers kept = (k : ℕ) (buffer : Option BucketBuffer) (since : Option 
 abbrev pub epoch_numbers : List Epoch → List ℕ
 epoch_numbers epochs = map (λ (e : Epoch). e.0) epochs
 
--- so many numbers from one on, the lowest first
+-- `count` numbers from `first` on, ascending
 abbrev pub numbers_from : (first count : ℕ) → List ℕ
 numbers_from first count = map (λ step. first + step) (numbers_below count)
 
@@ -33,11 +33,11 @@ numbers_in group = numbers_from group.first (length group.owners.items)
 abbrev pub IsIn : Group → (number : ℕ) → Type 0
 IsIn group number = (group.first ≤ number) × (number < group.first + length group.owners.items) × (length group.owners.items ≡ length group.buffers.items)
 
--- the epoch that it needs
+-- its needed epoch
 abbrev pub needed_of : Group → ℕ
 needed_of group = unwrap_or (slice_get (epoch_numbers group.closed.items) 0) group.opened.0
 
--- the buffer of a node, where it is up
+-- the buffer of a node that is up
 abbrev pub buffer_of : Group → (number : ℕ) → Option BucketBuffer
 buffer_of group number = unwrap_or (slice_get group.buffers.items (number - group.first)) None
 
@@ -49,15 +49,15 @@ covers_of group number = option_map_or (λ buffer. nat_le (node.since_of buffer)
 abbrev pub owner_of : Group → (bucket : ℕ) → ℕ
 owner_of group bucket = unwrap_or (slice_get group.owners.items (bucket - group.first)) bucket
 
--- a bucket that goes back to its home node at a close
+-- a bucket that returns to its home node at a close
 abbrev pub returns_of : Group → (bucket : ℕ) → Bool
 returns_of group bucket = not (owner_of group bucket == bucket) && covers_of group bucket
 
--- how many changes a node holds of a bucket in the open epoch
+-- the number of changes that a node holds of a bucket in the open epoch
 abbrev pub count_of : Group → (number bucket : ℕ) → ℕ
 count_of group number bucket = option_map_or (λ buffer. length (node.changes_kept buffer group.opened.0 bucket)) (buffer_of group number) 0
 
--- what a node sends again of a bucket
+-- what a node resends of a bucket
 abbrev pub again_of : Group → (sender bucket : ℕ) → List Sent
 again_of group sender bucket = option_map_or (λ buffer. sent_from sender (node.messages_kept buffer bucket group.opened.0)) (buffer_of group sender) []
 
@@ -74,15 +74,15 @@ owned_of group number = filter (λ bucket. owner_of group bucket == number) (num
 abbrev pub taken_of : Group → (number successor : ℕ) → List Sent
 taken_of group number successor = flat_map (again_of group successor) (owned_of group number)
 
--- what the home nodes send that get their buckets back
+-- what the home nodes resend that get their buckets back
 abbrev pub returned_of : Group → List Sent
 returned_of group = flat_map (λ bucket. again_of group bucket bucket) (filter (returns_of group) (numbers_in group))
 
--- a group keeps something that can be counted
-abbrev pub CanTell : Group → Type 0
-CanTell group = (kept : Kept) × Keeps group kept × AllFit kept
+-- a group represents something that can be counted
+abbrev pub HasCountableBuffers : Group → Type 0
+HasCountableBuffers group = (kept : Kept) × Keeps group kept × AllFit kept
 
--- a group keeps something
+-- a group represents something
 abbrev pub KeepsSome : Group → Type 0
 KeepsSome group = (kept : Kept) × Keeps group kept
 
@@ -96,7 +96,7 @@ abbrev pub CanAddOne : Option BucketBuffer → (epoch bucket : ℕ) → Type 0
 CanAddOne buffer epoch bucket =
     (kept : Kept) × (since : Option ℕ) × HoldsNode buffer since kept × (kept.opened ≡ epoch) × IsNumberOf kept bucket × (length (kept.changes kept.opened bucket) < 2 ^ 32 - 1)
 
--- these buffers can forget what is acknowledged, since the closed epochs rise
+-- these buffers can release what is acknowledged, because the closed epochs rise
 abbrev pub CanRelease : List (Option BucketBuffer) → Type 0
 CanRelease buffers = (kept : Kept) × AllHold buffers kept × (length buffers ≡ length kept.nodes) × IsOrdered kept
 
@@ -109,19 +109,19 @@ abbrev pub CanCount : Group → (number bucket : ℕ) → Type 0
 CanCount group number bucket =
     (kept : Kept) × Keeps group kept × IsNumberOf kept number × IsNumberOf kept bucket × (length (kept.changes kept.opened bucket) < 2 ^ 32)
 
--- what sending a bucket again needs
+-- what resending a bucket needs
 abbrev pub CanSend : Group → (sender bucket : ℕ) → Type 0
 CanSend group sender bucket = (kept : Kept) × Keeps group kept × IsNumberOf kept sender × IsNumberOf kept bucket × AllFit kept
 
--- the owner of a bucket behind a close
-abbrev pub owner_behind : Group → (bucket : ℕ) → ℕ
-owner_behind group bucket = if returns_of group bucket then bucket else owner_of group bucket
+-- the owner of a bucket after a close
+abbrev pub owner_after : Group → (bucket : ℕ) → ℕ
+owner_after group bucket = if returns_of group bucket then bucket else owner_of group bucket
 
--- the other nodes, behind one
+-- the other nodes, in cyclic order after one
 abbrev pub others_of : Group → (number : ℕ) → List ℕ
 others_of group number = filter (nat_lt number) (numbers_in group) ++ filter (λ other. nat_lt other number) (numbers_in group)
 
--- what looking for a node among some needs
+-- what a search for a covering node needs
 abbrev pub CanSeek : Group → (from until : ℕ) → Type 0
 CanSeek group from until = KeepsSome group × (from ≤ until) × (until ≤ length group.owners.items)
 

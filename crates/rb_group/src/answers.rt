@@ -6,13 +6,13 @@ use rb_base::{Epoch, NoMemory, SentList};
 /// What the failure of a node did.
 #[derive(Debug, Drop)]
 pub enum FailOutcome {
-    /// So many buckets got a new owner, which sends these messages again.
+    /// This many buckets got a new owner, which resends these messages.
     Takeover(u32, SentList),
     /// No other node of this group covers: the group is lost, and this epoch was needed.
     Lost { group: u32, epoch: Epoch },
 }
 
-/// Why a node did not fail, or start again. The group is as it was.
+/// Why a node did not fail or restart. The group is unchanged.
 #[derive(Clone, Copy, Debug, PartialEq, Eq)]
 pub enum GroupFault {
     /// This node is down already.

@@ -16,13 +16,13 @@ use std::collections::VecDeque;
 #[derive(Drop)]
 pub struct Group {
     alloc: Global,
-    // The lowest bucket, which is the lowest node too.
+    // The lowest bucket, which is also the lowest node.
     first: u32,
     opened: Epoch,
     acknowledged: Epoch,
     // The node that sends for a bucket, by bucket.
     owners: Vec<u32>,
-    // By node, the lowest first; none where it is down.
+    // By node, the lowest first; `None` for a node that is down.
     buffers: Vec<Option<BucketBuffer>>,
     // The closed epochs above the acknowledged one, the oldest first.
     closed: VecDeque<Epoch>,
@@ -30,10 +30,11 @@ pub struct Group {
 
 impl Group {
     ghost use Rattle.rb_group.specs.Group.{Keeps, IsNumberOf, CanCommit, CanClose, CanResend, CanFail, CanRestart, CanAcknowledge, part_sent, FailsTo, FailFault, RestartFault};
-    ghost use Rattle.rb_group.specs.Nodes.{IsIn, KeepsSome, CanTell, CanCount, CanSend, CanSeek, CanTakeOver, numbers_from, others_of, owner_behind, numbers_in, buffer_of, needed_of, covers_of, owner_of, count_of, again_of, returns_of, returned_of, done_of, taken_of, owned_of};
+    ghost use Rattle.rb_group.specs.Nodes.{IsIn, KeepsSome, HasCountableBuffers, CanCount, CanSend, CanSeek, CanTakeOver, numbers_from, others_of, owner_after, numbers_in, buffer_of, needed_of, covers_of, owner_of, count_of, again_of, returns_of, returned_of, done_of, taken_of, owned_of};
 
-    /// A group of the nodes from `first` on, so many, with the buckets of the same numbers, whose open epoch is this one. All nodes
-    /// are up, and each owns the bucket of its number.
+    /// Returns a group of the nodes `first` to `first + nodes - 1`, with the buckets of the same
+    /// numbers. `opened` is its open epoch. All nodes are up, and each owns the bucket of its
+    /// number.
     pub fn new(alloc: Global, first: u32, nodes: u32, opened: Epoch) -> Result<Group, NoMemory>
         requires some { 1 ≤ nodes }
         requires fits { first + nodes ≤ 2 ^ 32 }
@@ -57,14 +58,15 @@ impl Group {
         })
     }
 
-    /// The oldest epoch of which messages may have to be sent again: the open one, where no closed one waits for acknowledgement.
+    /// Returns the needed epoch: the oldest epoch whose messages may have to be resent. It is the
+    /// open one if every closed epoch is acknowledged.
     pub fn needed(&self) -> Epoch
         ensures { (kept : Kept) → Keeps self.now kept → result.0 ≡ needed_in kept }
     {
         self.first_needed()
     }
 
-    /// Whether a node is up and has all that is not acknowledged.
+    /// Returns whether a node is up and has everything that is unacknowledged.
     pub fn covers(&self, node: u32) -> bool
         requires number { (kept : Kept) × Keeps self.now kept × IsNumberOf kept node }
         ensures { (kept : Kept) → Keeps self.now kept → result ≡ covers_in kept node }
@@ -72,10 +74,12 @@ impl Group {
         self.is_covering(node)
     }
 
-    /// The node that sends for a bucket, where it is up.
+    /// Returns the node that sends for a bucket, if it is up.
     pub fn owner(&self, bucket: u32) -> Option<u32>
         requires bucket { (kept : Kept) × Keeps self.now kept × IsNumberOf kept bucket }
-        ensures { (kept : Kept) → Keeps self.now kept → result ≡ (if is_some (since_in kept (owner_in kept bucket)) then Some (owner_in kept bucket) else None) }
+        ensures { (kept : Kept) → Keeps self.now kept →
+            result ≡ (if is_some (since_in kept (owner_in kept bucket)) then Some
+            (owner_in kept bucket) else None) }
     {
         let owner = self.owner_number(bucket);
         if self.is_up(owner) {
@@ -84,12 +88,15 @@ impl Group {
         None
     }
 
-    /// Commits a change of a bucket in the open epoch: each node that buffers it gets the change, and what the bucket's owner sends
-    /// is answered. Without memory the group is gone.
+    /// Commits a change of a bucket in the open epoch: each node that buffers the epoch gets the
+    /// change. Returns the group, and what the bucket's owner sends. If memory allocation fails,
+    /// the group is gone.
     pub fn commit_part(self, bucket: u32, change: &Change) -> Result<(Group, Sent), NoMemory>
         requires ready { CanCommit self bucket }
-        ensures kept { IfOk result (λ pair. (kept : Kept) → Keeps self kept → Keeps pair.0 (with_part bucket change.now kept)) }
-        ensures sent { IfOk result (λ pair. (kept : Kept) → Keeps self kept → pair.1 ≡ part_sent kept bucket change.now) }
+        ensures kept { IfOk result (λ pair. (kept : Kept) → Keeps self kept →
+            Keeps pair.0 (with_part bucket change.now kept)) }
+        ensures sent { IfOk result (λ pair. (kept : Kept) → Keeps self kept →
+            pair.1 ≡ part_sent kept bucket change.now) }
     {
         let mut group = self;
         let alloc = group.alloc;
@@ -107,30 +114,36 @@ impl Group {
         Ok((group, Sent { sender, message }))
     }
 
-    /// Closes the open epoch, before which `prev` was closed, and opens `next`: each node that buffers it knows it. What the owners
-    /// send for the buckets is answered, the lowest bucket first, and then what the home nodes send again that get their buckets
-    /// back. Without memory the group is gone.
+    /// Closes the open epoch and opens `next`; `prev` is the epoch closed before it. Each node that
+    /// buffers the epoch records the close. Returns the group, and what is sent: the owners' Dones
+    /// of the buckets, the lowest bucket first, then the resends of the home nodes that get their
+    /// buckets back. If memory allocation fails, the group is gone.
     pub fn close(self, prev: Epoch, next: Epoch) -> Result<(Group, SentList), NoMemory>
         requires ready { CanClose self next.0 }
-        ensures kept { IfOk result (λ pair. (kept : Kept) → Keeps self kept → Keeps pair.0 (with_close prev.0 next.0 kept)) }
-        ensures sent { IfOk result (λ pair. (kept : Kept) → Keeps self kept → pair.1 ≡ sent_at_close prev.0 next.0 kept) }
+        ensures kept { IfOk result (λ pair. (kept : Kept) → Keeps self kept →
+            Keeps pair.0 (with_close prev.0 next.0 kept)) }
+        ensures sent { IfOk result (λ pair. (kept : Kept) → Keeps self kept →
+            pair.1 ≡ sent_at_close prev.0 next.0 kept) }
     {
         let mut group = self;
         let mut sent = group.dones(prev)?;
         group.close_nodes(prev, next)?;
         group.push_returned(&mut sent)?;
-        let owners = group.owners_behind()?;
+        let owners = group.owners_after()?;
         group.owners = owners;
         Ok((group, Items::from_vec(sent)))
     }
 
-    /// A node fails: its buffer is gone, and the next node that covers takes its buckets over and sends them again. Where none does
-    /// the group is lost.
+    /// Fails a node. Its buffer is gone, and the next node that covers takes over its buckets and
+    /// resends them. If none covers, the group is lost.
     pub fn fail(&mut self, node: u32) -> Result<FailOutcome, GroupFault>
         requires ready { CanFail self.old node }
-        ensures failed { IfOk result (λ outcome. (kept : Kept) → Keeps self.old kept → FailsTo kept node outcome self.new) }
-        ensures up { OnOk result ((kept : Kept) → Keeps self.old kept → is_some (since_in kept node) ≡ true) }
-        ensures refused { IfErr result (λ fault. (kept : Kept) → Keeps self.old kept → Keeps self.new kept × FailFault kept node fault) }
+        ensures failed { IfOk result (λ outcome. (kept : Kept) → Keeps self.old kept →
+            FailsTo kept node outcome self.new) }
+        ensures up { OnOk result ((kept : Kept) → Keeps self.old kept →
+            is_some (since_in kept node) ≡ true) }
+        ensures refused { IfErr result (λ fault. (kept : Kept) → Keeps self.old kept →
+            Keeps self.new kept × FailFault kept node fault) }
     {
         if !self.is_up(node) {
             return Err(GroupFault::NodeDown(node));
@@ -144,20 +157,22 @@ impl Group {
         }
     }
 
-    /// Every owner sends what is not acknowledged of its buckets again, the lowest bucket first.
+    /// Has every owner resend what is unacknowledged of its buckets, the lowest bucket first.
     pub fn resend(&self) -> Result<SentList, NoMemory>
         requires ready { CanResend self.now }
-        ensures { IfOk result (λ sent. (kept : Kept) → Keeps self.now kept → sent ≡ sent_at_resend kept) }
+        ensures { IfOk result (λ sent. (kept : Kept) → Keeps self.now kept →
+            sent ≡ sent_at_resend kept) }
     {
         let sent = self.again()?;
         Ok(Items::from_vec(sent))
     }
 
-    /// All epochs up to this one are acknowledged, or up to a later one, where that was told before: what was buffered of them is
-    /// forgotten. It takes no memory.
+    /// Acknowledges all epochs up to this one: what was buffered of them is released. An earlier
+    /// epoch than the last acknowledged one changes nothing. Allocates nothing.
     pub fn acknowledge(&mut self, through: Epoch)
         requires ready { CanAcknowledge self.old through.0 }
-        ensures { (kept : Kept) → Keeps self.old kept → Keeps self.new (with_acknowledged (max kept.acknowledged through.0) kept) }
+        ensures { (kept : Kept) → Keeps self.old kept →
+            Keeps self.new (with_acknowledged (max kept.acknowledged through.0) kept) }
     {
         if through.0 <= self.acknowledged.0 {
             return;
@@ -167,11 +182,15 @@ impl Group {
         self.acknowledged = through;
     }
 
-    /// A node that is down starts again, with an empty buffer. It buffers from the epoch behind the open one on, which is answered.
+    /// Restarts a node that is down, with an empty buffer. Returns the first epoch that it buffers,
+    /// the one after the open epoch.
     pub fn restart(&mut self, node: u32) -> Result<Epoch, GroupFault>
         requires ready { CanRestart self.old node }
-        ensures restarted { IfOk result (λ since. (kept : Kept) → Keeps self.old kept → (since.0 ≡ kept.opened + 1) × (since_in kept node ≡ None) × Keeps self.new (with_since node (Some (kept.opened + 1)) kept)) }
-        ensures refused { IfErr result (λ fault. (kept : Kept) → Keeps self.old kept → Keeps self.new kept × RestartFault kept node fault) }
+        ensures restarted { IfOk result (λ since. (kept : Kept) → Keeps self.old kept →
+            (since.0 ≡ kept.opened + 1) × (since_in kept node ≡ None)
+            × Keeps self.new (with_since node (Some (kept.opened + 1)) kept)) }
+        ensures refused { IfErr result (λ fault. (kept : Kept) → Keeps self.old kept →
+            Keeps self.new kept × RestartFault kept node fault) }
     {
         if self.is_up(node) {
             return Err(GroupFault::NodeUp(node));
@@ -183,7 +202,7 @@ impl Group {
         Ok(since)
     }
 
-    // The needed epoch.
+    // Returns the needed epoch.
     fn first_needed(&self) -> Epoch
         ensures { result.0 ≡ needed_of self.now }
     {
@@ -193,7 +212,7 @@ impl Group {
         }
     }
 
-    // The buffer of a node, where it is up.
+    // Returns the buffer of a node that is up.
     fn buffer(&self, node: u32) -> Option<&BucketBuffer>
         requires number { IsIn self.now node }
         ensures { option_map (λ buffer. buffer.now) result ≡ buffer_of self.now node }
@@ -201,7 +220,7 @@ impl Group {
         self.buffers[(node - self.first) as usize].as_ref()
     }
 
-    // Whether a node is up.
+    // Returns whether a node is up.
     fn is_up(&self, node: u32) -> bool
         requires number { IsIn self.now node }
         ensures { result ≡ is_some (buffer_of self.now node) }
@@ -209,7 +228,7 @@ impl Group {
         self.buffer(node).is_some()
     }
 
-    // Whether a node covers.
+    // Returns whether a node covers.
     fn is_covering(&self, node: u32) -> bool
         requires number { IsIn self.now node }
         ensures { result ≡ covers_of self.now node }
@@ -220,7 +239,7 @@ impl Group {
         }
     }
 
-    // The owner of a bucket, be it up or down.
+    // Returns the owner of a bucket, whether it is up or down.
     fn owner_number(&self, bucket: u32) -> u32
         requires number { IsIn self.now bucket }
         ensures { result ≡ owner_of self.now bucket }
@@ -228,7 +247,7 @@ impl Group {
         self.owners[(bucket - self.first) as usize]
     }
 
-    // How many changes a node holds of a bucket in the open epoch.
+    // Returns how many changes a node holds of a bucket in the open epoch.
     fn count(&self, node: u32, bucket: u32) -> u32
         requires ready { CanCount self.now node bucket }
         ensures { result ≡ count_of self.now node bucket }
@@ -239,7 +258,7 @@ impl Group {
         }
     }
 
-    // Appends what a node sends again of a bucket.
+    // Appends what a node resends of a bucket.
     fn push_again(&self, sent: &mut Vec<Sent>, sender: u32, bucket: u32) -> Result<(), NoMemory>
         requires ready { CanSend self.now sender bucket }
         ensures { OnOk result (sent.new.items ≡ sent.old.items ++ again_of self.now sender bucket) }
@@ -251,10 +270,12 @@ impl Group {
         Ok(())
     }
 
-    // What every owner sends again.
+    // Returns what every owner resends.
     fn again(&self) -> Result<Vec<Sent>, NoMemory>
-        requires ready { CanTell self.now }
-        ensures { IfOk result (λ sent. sent.items ≡ flat_map (λ bucket. again_of self.now (owner_of self.now bucket) bucket) (numbers_in self.now)) }
+        requires ready { HasCountableBuffers self.now }
+        ensures { IfOk result (λ sent. sent.items
+            ≡ flat_map (λ bucket. again_of self.now (owner_of self.now bucket) bucket)
+            (numbers_in self.now)) }
     {
         let mut sent = Vec::new(self.alloc);
         for index in 0..self.owners.len() {
@@ -265,10 +286,11 @@ impl Group {
         Ok(sent)
     }
 
-    // The Done of each bucket in the open epoch, before which `prev` was closed.
+    // Returns the Done of each bucket in the open epoch; `prev` is the epoch closed before it.
     fn dones(&self, prev: Epoch) -> Result<Vec<Sent>, NoMemory>
-        requires ready { CanTell self.now }
-        ensures { IfOk result (λ sent. sent.items ≡ map (done_of self.now prev) (numbers_in self.now)) }
+        requires ready { HasCountableBuffers self.now }
+        ensures { IfOk result (λ sent. sent.items
+            ≡ map (done_of self.now prev) (numbers_in self.now)) }
     {
         let mut sent = Vec::new(self.alloc);
         for index in 0..self.owners.len() {
@@ -285,9 +307,10 @@ impl Group {
         Ok(sent)
     }
 
-    // Each node that buffers the open epoch knows that it was closed, and the next one opens.
+    // Records the close of the open epoch at each node that buffers it, and opens the next one.
     fn close_nodes(&mut self, prev: Epoch, next: Epoch) -> Result<(), NoMemory>
-        ensures { OnOk result ((kept : Kept) → Keeps self.old kept → kept.opened < next.0 → Keeps self.new (only_closed prev.0 next.0 kept)) }
+        ensures { OnOk result ((kept : Kept) → Keeps self.old kept → kept.opened < next.0 →
+            Keeps self.new (only_closed prev.0 next.0 kept)) }
     {
         close_in_all(&mut self.buffers, self.opened, prev)?;
         self.closed.push_back(self.opened)?;
@@ -295,7 +318,7 @@ impl Group {
         Ok(())
     }
 
-    // Whether a bucket goes back to its home node.
+    // Returns whether a bucket returns to its home node.
     fn returns(&self, bucket: u32) -> bool
         requires number { IsIn self.now bucket }
         ensures { result ≡ returns_of self.now bucket }
@@ -306,10 +329,10 @@ impl Group {
         self.is_covering(bucket)
     }
 
-    // The owner of a bucket behind a close.
+    // Returns the owner of a bucket after a close.
     fn next_owner(&self, bucket: u32) -> u32
         requires number { IsIn self.now bucket }
-        ensures { result ≡ owner_behind self.now bucket }
+        ensures { result ≡ owner_after self.now bucket }
     {
         if self.returns(bucket) {
             return bucket;
@@ -317,10 +340,11 @@ impl Group {
         self.owner_number(bucket)
     }
 
-    // Appends what the home node of a bucket sends again, where it gets the bucket back.
+    // Appends what the home node of a bucket resends, if it gets the bucket back.
     fn push_if_returned(&self, sent: &mut Vec<Sent>, bucket: u32) -> Result<(), NoMemory>
         requires ready { CanSend self.now bucket bucket }
-        ensures { OnOk result (sent.new.items ≡ sent.old.items ++ (if returns_of self.now bucket then again_of self.now bucket bucket else [])) }
+        ensures { OnOk result (sent.new.items ≡ sent.old.items
+            ++ (if returns_of self.now bucket then again_of self.now bucket bucket else [])) }
     {
         if self.returns(bucket) {
             self.push_again(sent, bucket, bucket)?;
@@ -328,9 +352,9 @@ impl Group {
         Ok(())
     }
 
-    // Appends what the home nodes send again that get their buckets back.
+    // Appends what the home nodes resend that get their buckets back.
     fn push_returned(&self, sent: &mut Vec<Sent>) -> Result<(), NoMemory>
-        requires ready { CanTell self.now }
+        requires ready { HasCountableBuffers self.now }
         ensures { OnOk result (sent.new.items ≡ sent.old.items ++ returned_of self.now) }
     {
         for index in 0..self.owners.len() {
@@ -339,10 +363,11 @@ impl Group {
         Ok(())
     }
 
-    // The owners behind a close.
-    fn owners_behind(&self) -> Result<Vec<u32>, NoMemory>
+    // Returns the owners after a close.
+    fn owners_after(&self) -> Result<Vec<u32>, NoMemory>
         requires ready { KeepsSome self.now }
-        ensures { IfOk result (λ owners. owners.items ≡ map (owner_behind self.now) (numbers_in self.now)) }
+        ensures { IfOk result (λ owners. owners.items
+            ≡ map (owner_after self.now) (numbers_in self.now)) }
     {
         let mut owners = Vec::new(self.alloc);
         for index in 0..self.owners.len() {
@@ -352,10 +377,11 @@ impl Group {
         Ok(owners)
     }
 
-    // The first node that covers, of those from one place on until another.
+    // Returns the first node that covers, from place `from` to before place `until`.
     fn covering(&self, from: usize, until: usize) -> Option<u32>
         requires ready { CanSeek self.now from until }
-        ensures { result ≡ find (covers_of self.now) (numbers_from (self.now.first + from) (until - from)) }
+        ensures { result ≡ find (covers_of self.now)
+            (numbers_from (self.now.first + from) (until - from)) }
     {
         for index in from..until {
             let node = self.first + index as u32;
@@ -366,7 +392,7 @@ impl Group {
         None
     }
 
-    // The next node behind one that covers.
+    // Returns the next node after this one, in cyclic order, that covers.
     fn successor(&self, node: u32) -> Option<u32>
         requires ready { CanFail self.now node }
         ensures { result ≡ find (covers_of self.now) (others_of self.now node) }
@@ -378,7 +404,7 @@ impl Group {
         }
     }
 
-    // How many buckets a node owns.
+    // Returns how many buckets a node owns.
     fn owned_count(&self, node: u32) -> u32
         requires ready { KeepsSome self.now }
         ensures { result ≡ length (owned_of self.now node) }
@@ -392,7 +418,7 @@ impl Group {
         count
     }
 
-    // Appends what a successor sends again of a bucket, where the node that failed owned it.
+    // Appends what a successor resends of a bucket, if the failed node owned it.
     fn push_if_owned(
         &self,
         sent: &mut Vec<Sent>,
@@ -401,7 +427,9 @@ impl Group {
         bucket: u32,
     ) -> Result<(), NoMemory>
         requires ready { CanSend self.now successor bucket }
-        ensures { OnOk result (sent.new.items ≡ sent.old.items ++ (if owner_of self.now bucket == node then again_of self.now successor bucket else [])) }
+        ensures { OnOk result (sent.new.items ≡ sent.old.items
+            ++ (if owner_of self.now bucket == node then again_of self.now successor bucket else
+            [])) }
     {
         if self.owner_number(bucket) == node {
             self.push_again(sent, successor, bucket)?;
@@ -409,7 +437,7 @@ impl Group {
         Ok(())
     }
 
-    // What a successor sends.
+    // Returns what a successor resends.
     fn taken(&self, node: u32, successor: u32) -> Result<Vec<Sent>, NoMemory>
         requires ready { CanTakeOver self.now node successor }
         ensures { IfOk result (λ sent. sent.items ≡ taken_of self.now node successor) }
@@ -422,9 +450,10 @@ impl Group {
         Ok(sent)
     }
 
-    // The owners when the buckets of a node go to another.
+    // Returns the owners after a node's buckets go to another node.
     fn owners_moved(&self, node: u32, successor: u32) -> Result<Vec<u32>, NoMemory>
-        ensures { IfOk result (λ owners. owners.items ≡ map (λ owner. if owner == node then successor else owner) self.now.owners.items) }
+        ensures { IfOk result (λ owners. owners.items
+            ≡ map (λ owner. if owner == node then successor else owner) self.now.owners.items) }
     {
         let mut owners = Vec::new(self.alloc);
         for index in 0..self.owners.len() {
@@ -433,10 +462,11 @@ impl Group {
         Ok(owners)
     }
 
-    // A node goes down, and its successor takes its buckets over.
+    // Takes a node down; its successor takes over its buckets.
     fn take_over(&mut self, node: u32, successor: u32) -> Result<FailOutcome, NoMemory>
         requires ready { CanTakeOver self.old node successor }
-        ensures taken { IfOk result (λ outcome. (kept : Kept) → Keeps self.old kept → FailsTo kept node outcome self.new) }
+        ensures taken { IfOk result (λ outcome. (kept : Kept) → Keeps self.old kept →
+            FailsTo kept node outcome self.new) }
         ensures refused { IfErr result (λ fault. self.new ≡ self.old) }
     {
         let sent = self.taken(node, successor)?;
@@ -447,10 +477,11 @@ impl Group {
         Ok(FailOutcome::Takeover(count, Items::from_vec(sent)))
     }
 
-    // A node goes down that has no successor.
+    // Takes a node down that has no successor.
     fn lose(&mut self, node: u32) -> FailOutcome
         requires ready { CanFail self.old node }
-        ensures { (kept : Kept) → Keeps self.old kept → successor_in kept node ≡ None → FailsTo kept node result self.new }
+        ensures { (kept : Kept) → Keeps self.old kept → successor_in kept node ≡ None →
+            FailsTo kept node result self.new }
     {
         let epoch = self.first_needed();
         let group = (self.first as usize / self.buffers.len()) as u32;

@@ -1,9 +1,11 @@
-//! The data nodes of one group. What is done in the group's buckets is kept by all nodes that are up, each since it began, so that any
-//! of them can stand in for another; one node, the bucket's owner, sends it.
+//! The data nodes of one group. All nodes that are up buffer what is done in the group's buckets,
+//! each since it started, so that any of them can take over from another. One node, the bucket's
+//! owner, sends it.
 //!
-//! A group stands for what was done in it, and which of its nodes are up (`Keeps`): a commit adds a change to each buffer, a close a
-//! closed epoch, and what is acknowledged is forgotten. What is sent is read off a buffer of a node that covers: it holds all that is
-//! not acknowledged. Below stands the buffer of one node.
+//! A group represents what was done in it, and which of its nodes are up (`Keeps`). A commit adds a
+//! change to each buffer, a close adds a closed epoch, and acknowledged epochs are released. What
+//! is sent is read from the buffer of a node that covers, which holds everything that is
+//! unacknowledged. The buffer of one node stands below.
 #![tactic(auto)]
 
 mod answers;
@@ -15,6 +17,3 @@ mod sending;
 
 pub use answers::{FailOutcome, GroupFault};
 pub use group::Group;
-
-#[cfg(test)]
-mod tests;

@@ -7,7 +7,8 @@ use rb_base::{Change, Epoch, NoMemory};
 use rb_bucket::BucketBuffer;
 use std::alloc::Global;
 
-/// Adds a change of a bucket to the buffer of each node that buffers the open epoch. Without memory some buffers may have it.
+/// Adds a change of a bucket to the buffer of each node that buffers the open epoch. If memory
+/// allocation fails, some buffers may have it.
 pub fn add_to_all(
     alloc: Global,
     buffers: &mut Vec<Option<BucketBuffer>>,
@@ -16,7 +17,9 @@ pub fn add_to_all(
     change: &Change,
 ) -> Result<(), NoMemory>
     requires room { CanAdd buffers.old.items epoch.0 bucket }
-    ensures kept { OnOk result ((kept : Kept) → AllHold buffers.old.items kept → kept.opened ≡ epoch.0 → IsOrdered kept → AllHold buffers.new.items (with_part bucket change.now kept)) }
+    ensures kept { OnOk result ((kept : Kept) → AllHold buffers.old.items kept →
+        kept.opened ≡ epoch.0 → IsOrdered kept →
+        AllHold buffers.new.items (with_part bucket change.now kept)) }
     ensures count { OnOk result (length buffers.new.items ≡ length buffers.old.items) }
 {
     for index in 0..buffers.len() {
@@ -25,7 +28,7 @@ pub fn add_to_all(
     Ok(())
 }
 
-// Adds a change to a node's buffer, where it is up and buffers the open epoch.
+// Adds a change to a node's buffer, if the node is up and buffers the open epoch.
 fn add_to_one(
     alloc: Global,
     buffer: &mut Option<BucketBuffer>,
@@ -34,7 +37,9 @@ fn add_to_one(
     change: &Change,
 ) -> Result<(), NoMemory>
     requires room { CanAddOne buffer.old epoch.0 bucket }
-    ensures { OnOk result ((kept : Kept) → (since : Option ℕ) → HoldsNode buffer.old since kept → kept.opened ≡ epoch.0 → IsOrdered kept → HoldsNode buffer.new since (with_part bucket change.now kept)) }
+    ensures { OnOk result ((kept : Kept) → (since : Option ℕ) → HoldsNode buffer.old since kept →
+        kept.opened ≡ epoch.0 → IsOrdered kept →
+        HoldsNode buffer.new since (with_part bucket change.now kept)) }
 {
     if let Some(held) = buffer {
         if held.since().0 <= epoch.0 {
@@ -45,13 +50,16 @@ fn add_to_one(
     Ok(())
 }
 
-/// Tells the buffer of each node that buffers the open epoch that it was closed. Without memory some buffers may know it.
+/// Records the close of the open epoch at each node that buffers it. If memory allocation fails,
+/// some nodes may have recorded it.
 pub fn close_in_all(
     buffers: &mut Vec<Option<BucketBuffer>>,
     epoch: Epoch,
     prev: Epoch,
 ) -> Result<(), NoMemory>
-    ensures kept { OnOk result ((kept : Kept) → (next : ℕ) → AllHold buffers.old.items kept → kept.opened ≡ epoch.0 → IsOrdered kept → AllHold buffers.new.items (only_closed prev.0 next kept)) }
+    ensures kept { OnOk result ((kept : Kept) → (next : ℕ) → AllHold buffers.old.items kept →
+        kept.opened ≡ epoch.0 → IsOrdered kept →
+        AllHold buffers.new.items (only_closed prev.0 next kept)) }
     ensures count { OnOk result (length buffers.new.items ≡ length buffers.old.items) }
 {
     for index in 0..buffers.len() {
@@ -60,13 +68,15 @@ pub fn close_in_all(
     Ok(())
 }
 
-// Tells a node's buffer that the open epoch was closed, where it is up and buffers it.
+// Records the close of the open epoch at a node, if it is up and buffers the epoch.
 fn close_in_one(
     buffer: &mut Option<BucketBuffer>,
     epoch: Epoch,
     prev: Epoch,
 ) -> Result<(), NoMemory>
-    ensures { OnOk result ((kept : Kept) → (since : Option ℕ) → (next : ℕ) → HoldsNode buffer.old since kept → kept.opened ≡ epoch.0 → IsOrdered kept → HoldsNode buffer.new since (only_closed prev.0 next kept)) }
+    ensures { OnOk result ((kept : Kept) → (since : Option ℕ) → (next : ℕ) →
+        HoldsNode buffer.old since kept → kept.opened ≡ epoch.0 → IsOrdered kept →
+        HoldsNode buffer.new since (only_closed prev.0 next kept)) }
 {
     if let Some(held) = buffer {
         if held.since().0 <= epoch.0 {
@@ -76,10 +86,11 @@ fn close_in_one(
     Ok(())
 }
 
-/// Forgets in each node's buffer what is acknowledged now.
+/// Releases what is acknowledged in each node's buffer.
 pub fn release_in_all(buffers: &mut Vec<Option<BucketBuffer>>, through: Epoch)
     requires ready { CanRelease buffers.old.items }
-    ensures kept { (kept : Kept) → AllHold buffers.old.items kept → kept.acknowledged ≤ through.0 → AllHold buffers.new.items (with_acknowledged through.0 kept) }
+    ensures kept { (kept : Kept) → AllHold buffers.old.items kept → kept.acknowledged ≤ through.0 →
+        AllHold buffers.new.items (with_acknowledged through.0 kept) }
     ensures count { length buffers.new.items ≡ length buffers.old.items }
 {
     for index in 0..buffers.len() {
@@ -87,10 +98,12 @@ pub fn release_in_all(buffers: &mut Vec<Option<BucketBuffer>>, through: Epoch)
     }
 }
 
-// Forgets in a node's buffer what is acknowledged now.
+// Releases what is acknowledged in a node's buffer.
 fn release_in_one(buffer: &mut Option<BucketBuffer>, through: Epoch)
     requires ready { CanReleaseOne buffer.old }
-    ensures { (kept : Kept) → (since : Option ℕ) → HoldsNode buffer.old since kept → kept.acknowledged ≤ through.0 → HoldsNode buffer.new since (with_acknowledged through.0 kept) }
+    ensures { (kept : Kept) → (since : Option ℕ) → HoldsNode buffer.old since kept →
+        kept.acknowledged ≤ through.0 →
+        HoldsNode buffer.new since (with_acknowledged through.0 kept) }
 {
     if let Some(held) = buffer {
         held.release(through);

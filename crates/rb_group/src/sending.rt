@@ -3,7 +3,7 @@ ghost use Rattle.rb_message_defs.specs.Nodes.{sent_from};
 
 use rb_base::{Messages, NoMemory, Sent};
 
-/// Appends these messages, as a node sends them.
+/// Appends these messages, as sent by a node.
 pub fn push_from(sent: &mut Vec<Sent>, sender: u32, messages: Messages) -> Result<(), NoMemory>
     ensures { OnOk result (sent.new.items ≡ sent.old.items ++ sent_from sender messages) }
 {
@@ -13,7 +13,8 @@ pub fn push_from(sent: &mut Vec<Sent>, sender: u32, messages: Messages) -> Resul
     Ok(())
 }
 
-/// A node, or the one that took it over.
+/// Returns the owner after a takeover: the successor for the failed node, and each other node
+/// unchanged.
 pub fn moved(owner: u32, node: u32, successor: u32) -> u32
     ensures { result ≡ (if owner == node then successor else owner) }
 {

@@ -10,7 +10,7 @@ use Rattle.rb_log_defs.specs.Index.{index_record, index_file}
 use Rattle.rb_device_defs.specs.Index.{IsIndexImage, open_records, begins_with_record}
 use Rattle.rb_disk.specs.Disk.{Holds, Torn, CutShort}
 
--- a device's fault is one of two, and each tells something
+-- a device's fault is one of two, and each has its cause
 pub by_fault : {T A B P : Type 0} (fault : OutFault) → (IsErrOf {T = T} (Err fault) outs.Failed → A) → (IsErrOf {T = T} (Err fault) outs.NoMemory → B) → (A → P) → (B → P) → P
 by_fault outs.Failed failed memory at_failed at_memory = at_failed (failed refl)
 by_fault outs.NoMemory failed memory at_failed at_memory = at_memory (memory refl)
@@ -33,20 +33,21 @@ closed_ends xs closed = and_left _ _ (ap (λ (gate : ℕ). gate == 1) closed)
 pub short_ends : (xs : List ℕ) → length xs ≤ 65 → begins_with_record xs ≡ false
 short_ends xs short = and_right _ _ (le-ltb 65 (length xs) short)
 
--- nor where none began before, and the gate is the same and there are no more bytes
+-- nor if none began before, and the gate is the same and there are no more bytes
 still_ends : (xs ys : List ℕ) → get_or ys 0 0 ≡ get_or xs 0 0 → length ys ≤ length xs → begins_with_record xs ≡ false → begins_with_record ys ≡ false
 still_ends xs ys same short ended = by_part (and_cases (get_or xs 0 0 == 1) (nat_lt 65 (length xs)) ended) where
   by_part : (get_or xs 0 0 == 1 ≡ false) ⊎ (nat_lt 65 (length xs) ≡ false) → begins_with_record ys ≡ false
   by_part (inl gate) = and_left _ _ (ap (λ (gate : ℕ). gate == 1) same ∙ gate)
   by_part (inr size) = short_ends ys (let few : length xs ≤ 65 = ltb-false 65 (length xs) size in omega arith)
 
--- where the bytes before the last gate are as they were, the rows are too, if no record that is taken begins there
-pub same_front : (rows : List IndexRow) (gate : ℕ) (file new : List ℕ) → length (open_records rows) ≡ gate → IsIndexImage rows file → take gate new ≡ take gate file → (rows ≢ [] → gate < length new) → begins_with_record (drop gate new) ≡ false
+-- the rows are unchanged if the bytes before the last gate are, and no record that can be taken
+-- begins there
+pub same_prefix : (rows : List IndexRow) (gate : ℕ) (file new : List ℕ) → length (open_records rows) ≡ gate → IsIndexImage rows file → take gate new ≡ take gate file → (rows ≢ [] → gate < length new) → begins_with_record (drop gate new) ≡ false
     → IsIndexImage rows new
-same_front rows gate file new is image same far ended =
-    let front : take gate file ≡ open_records rows = ap (take gate) image.bytes ∙ take_at (open_records rows) image.behind gate is in
+same_prefix rows gate file new is image same far ended =
+    let front : take gate file ≡ open_records rows = ap (take gate) image.bytes ∙ take_at (open_records rows) image.following gate is in
     record {
-      behind = drop gate new;
+      following = drop gate new;
       bytes = sym (take-append-drop gate new) ∙ ap (λ (xs : List ℕ). xs ++ drop gate new) (same ∙ front);
       more = λ some. let more = far some in omega (arith, length-drop gate new);
       ended = ended;
@@ -55,7 +56,7 @@ same_front rows gate file new is image same far ended =
 -- the records, a closed gate, and any bytes
 pub closed_image : (rows : List IndexRow) (bytes new : List ℕ) → new ≡ open_records rows ++ 0 ∷ bytes → IsIndexImage rows new
 closed_image rows bytes new is = record {
-  behind = 0 ∷ bytes;
+  following = 0 ∷ bytes;
   bytes = is;
   more = λ _. omega arith;
   ended = refl;
@@ -65,12 +66,12 @@ pub whole_image : (rows : List IndexRow) (file : List ℕ) → file ≡ index_fi
 unfolding index_file
 whole_image rows file is = closed_image rows [] file is
 
--- the size of a whole index, which ends behind its last gate
+-- the size of a whole index, which ends after its last gate
 pub whole_size : (rows : List IndexRow) (file : List ℕ) → file ≡ index_file rows → length file ≡ length (open_records rows) + 1
 unfolding index_file
 whole_size rows file is = ap length is ∙ length-append (open_records rows) (0 ∷ [])
 
--- the gate of a file that was the same up to behind it
+-- the gate of a file that was the same up to after it
 gate_kept : (gate : ℕ) (file new : List ℕ) → take (gate + 1) new ≡ take (gate + 1) file → get_or (drop gate new) 0 0 ≡ get_or (drop gate file) 0 0
 gate_kept gate file new same =
     gate_of new ∙ ap (λ (xs : List ℕ). get_or xs gate 0) same ∙ sym (gate_of file) where
@@ -79,12 +80,12 @@ gate_kept gate file new same =
           let here : gate + 0 ≡ gate = omega arith in
           get_or-drop gate xs 0 0 ∙ ap (λ (i : ℕ). get_or xs i 0) here ∙ sym (get_or-take (gate + 1) xs gate 0 (omega arith))
 
-front_kept : (gate : ℕ) (file new : List ℕ) → take (gate + 1) new ≡ take (gate + 1) file → take gate new ≡ take gate file
-front_kept gate file new same = front_of new ∙ ap (take gate) same ∙ sym (front_of file) where
-  front_of : (xs : List ℕ) → take gate xs ≡ take gate (take (gate + 1) xs)
-  front_of xs = sym (take-take gate (gate + 1) xs (omega arith))
+prefix_kept : (gate : ℕ) (file new : List ℕ) → take (gate + 1) new ≡ take (gate + 1) file → take gate new ≡ take gate file
+prefix_kept gate file new same = prefix_of new ∙ ap (take gate) same ∙ sym (prefix_of file) where
+  prefix_of : (xs : List ℕ) → take gate xs ≡ take gate (take (gate + 1) xs)
+  prefix_of xs = sym (take-take gate (gate + 1) xs (omega arith))
 
--- a record that was torn as it was written behind the last gate
+-- a record that was torn while it was written after the last gate
 pub record_torn : (rows : List IndexRow) (at count : ℕ) (file new : List ℕ) → at ≡ length file → file ≡ index_file rows → Torn at count file new → IsIndexImage rows new
 unfolding index_file
 record_torn rows at count file new end is torn =
@@ -93,9 +94,9 @@ record_torn rows at count file new end is torn =
     let same : take (gate + 1) new ≡ take (gate + 1) file = subst (λ (at : ℕ). take at new ≡ take at file) size torn.before in
     let closed : get_or (drop gate file) 0 0 ≡ 0 = ap (λ (xs : List ℕ). get_or (drop gate xs) 0 0) is ∙ ap (λ (xs : List ℕ). get_or xs 0 0) (drop_at (open_records rows) (0 ∷ []) gate refl) in
     let longer = torn.no_shorter in
-    same_front rows gate file new refl (whole_image rows file is) (front_kept gate file new same) (λ _. omega arith) (closed_ends (drop gate new) (gate_kept gate file new same ∙ closed))
+    same_prefix rows gate file new refl (whole_image rows file is) (prefix_kept gate file new same) (λ _. omega arith) (closed_ends (drop gate new) (gate_kept gate file new same ∙ closed))
 
--- a record that was written, behind its gate that is still closed
+-- a record that was written, after its gate that is still closed
 pub record_written : (rows : List IndexRow) (at : ℕ) (bytes file new : List ℕ) → at ≡ length file → file ≡ index_file rows → Holds file at bytes new → new ≡ open_records rows ++ 0 ∷ bytes
 unfolding index_file
 record_written rows at bytes file new end is held =
@@ -116,28 +117,28 @@ added rows row new is =
 pub gate_torn : (rows : List IndexRow) (row : IndexRow) (gate : ℕ) (file new : List ℕ) → length (open_records rows) ≡ gate → file ≡ open_records rows ++ 0 ∷ (index_record row ++ 0 ∷ []) → Torn gate 1 file new
     → IsIndexImage rows new ⊎ IsIndexImage (rows ++ row ∷ []) new
 gate_torn rows row gate file new is written torn = by_gate (cases_Bool (byte == 1)) where
-  behind : List ℕ
-  behind = index_record row ++ 0 ∷ []
+  following : List ℕ
+  following = index_record row ++ 0 ∷ []
 
   byte : ℕ
   byte = get_or new gate 0
 
-  same : new ≡ open_records rows ++ byte ∷ behind
+  same : new ≡ open_records rows ++ byte ∷ following
   same =
-      let size : length file ≡ gate + (1 + length behind) = omega (arith, ap length written, length-append (open_records rows) (0 ∷ behind)) in
+      let size : length file ≡ gate + (1 + length following) = omega (arith, ap length written, length-append (open_records rows) (0 ∷ following)) in
       let longer = torn.no_shorter in
-      let front : take gate new ≡ open_records rows = torn.before ∙ ap (take gate) written ∙ take_at (open_records rows) (0 ∷ behind) gate is in
-      let rest : drop (gate + 1) new ≡ behind = torn.after ∙ ap (drop (gate + 1)) (written ∙ sym (append_assoc (open_records rows) (0 ∷ []) behind))
-      ∙ drop_at (open_records rows ++ 0 ∷ []) behind (gate + 1) (omega (arith, length-append (open_records rows) (0 ∷ []))) in
+      let front : take gate new ≡ open_records rows = torn.before ∙ ap (take gate) written ∙ take_at (open_records rows) (0 ∷ following) gate is in
+      let rest : drop (gate + 1) new ≡ following = torn.after ∙ ap (drop (gate + 1)) (written ∙ sym (append_assoc (open_records rows) (0 ∷ []) following))
+      ∙ drop_at (open_records rows ++ 0 ∷ []) following (gate + 1) (omega (arith, length-append (open_records rows) (0 ∷ []))) in
       sym (take-append-drop gate new) ∙ ap (λ (xs : List ℕ). xs ++ drop gate new) front
       ∙ ap (λ (xs : List ℕ). open_records rows ++ xs) (drop_more new gate 0 (omega arith) ∙ ap (λ (xs : List ℕ). byte ∷ xs) rest)
 
   by_gate : (byte == 1 ≡ true) ⊎ (byte == 1 ≡ false) → IsIndexImage rows new ⊎ IsIndexImage (rows ++ row ∷ []) new
   by_gate (inl opened) =
-      let whole : new ≡ open_records rows ++ 1 ∷ behind = same ∙ ap (λ (gate : ℕ). open_records rows ++ gate ∷ behind) (eqb-true byte 1 opened) in
+      let whole : new ≡ open_records rows ++ 1 ∷ following = same ∙ ap (λ (gate : ℕ). open_records rows ++ gate ∷ following) (eqb-true byte 1 opened) in
       inr (whole_image (rows ++ row ∷ []) new (added rows row new whole))
   by_gate (inr closed) = inl (record {
-    behind = byte ∷ behind;
+    following = byte ∷ following;
     bytes = same;
     more = λ _. omega arith;
     ended = and_left _ _ closed;
@@ -147,25 +148,25 @@ gate_torn rows row gate file new is written torn = by_gate (cases_Bool (byte == 
 pub gate_opened : (rows : List IndexRow) (row : IndexRow) (gate : ℕ) (file new : List ℕ) → length (open_records rows) ≡ gate → file ≡ open_records rows ++ 0 ∷ (index_record row ++ 0 ∷ []) → Holds file gate (1 ∷ []) new
     → new ≡ index_file (rows ++ row ∷ [])
 gate_opened rows row gate file new is written held =
-    let behind = index_record row ++ 0 ∷ [] in
-    let front : take gate file ≡ open_records rows = ap (take gate) written ∙ take_at (open_records rows) (0 ∷ behind) gate is in
-    let rest : drop (gate + 1) file ≡ behind = ap (drop (gate + 1)) (written ∙ sym (append_assoc (open_records rows) (0 ∷ []) behind))
-    ∙ drop_at (open_records rows ++ 0 ∷ []) behind (gate + 1) (omega (arith, length-append (open_records rows) (0 ∷ []))) in
+    let following = index_record row ++ 0 ∷ [] in
+    let front : take gate file ≡ open_records rows = ap (take gate) written ∙ take_at (open_records rows) (0 ∷ following) gate is in
+    let rest : drop (gate + 1) file ≡ following = ap (drop (gate + 1)) (written ∙ sym (append_assoc (open_records rows) (0 ∷ []) following))
+    ∙ drop_at (open_records rows ++ 0 ∷ []) following (gate + 1) (omega (arith, length-append (open_records rows) (0 ∷ []))) in
     added rows row new (held ∙ ap (λ (xs : List ℕ). xs ++ 1 ∷ drop (gate + 1) file) front ∙ ap (λ (xs : List ℕ). open_records rows ++ 1 ∷ xs) rest)
 
 -- the size of what may be found
 size_of_image : (rows : List IndexRow) (gate : ℕ) (file : List ℕ) → length (open_records rows) ≡ gate → IsIndexImage rows file → rows ≢ [] → gate < length file
-size_of_image rows gate file is image some = let more = image.more some in omega (arith, ap length image.bytes, length-append (open_records rows) image.behind)
+size_of_image rows gate file is image some = let more = image.more some in omega (arith, ap length image.bytes, length-append (open_records rows) image.following)
 
 ended_at : (rows : List IndexRow) (gate : ℕ) (file : List ℕ) → length (open_records rows) ≡ gate → IsIndexImage rows file → begins_with_record (drop gate file) ≡ false
-ended_at rows gate file is image = ap begins_with_record (ap (drop gate) image.bytes ∙ drop_at (open_records rows) image.behind gate is) ∙ image.ended
+ended_at rows gate file is image = ap begins_with_record (ap (drop gate) image.bytes ∙ drop_at (open_records rows) image.following gate is) ∙ image.ended
 
--- a cut behind the last gate that failed, and one that did not
+-- a cut after the last gate that failed, and one that did not
 pub cut_short : (rows : List IndexRow) (gate : ℕ) (file new : List ℕ) → length (open_records rows) ≡ gate → IsIndexImage rows file → CutShort (gate + 1) file new → IsIndexImage rows new
 cut_short rows gate file new is image short =
     let longer = short.no_shorter in
     let shorter = short.no_longer in
-    same_front rows gate file new is image (front_kept gate file new short.front) (λ _. omega arith)
+    same_prefix rows gate file new is image (prefix_kept gate file new short.front) (λ _. omega arith)
     (still_ends (drop gate file) (drop gate new) (gate_kept gate file new short.front) (omega (arith, length-drop gate file, length-drop gate new)) (ended_at rows gate file is image))
 
 pub cut_off : (rows : List IndexRow) (gate : ℕ) (file new : List ℕ) → length (open_records rows) ≡ gate → IsIndexImage rows file → gate + 1 ≤ length file → new ≡ take (gate + 1) file → IsIndexImage rows new
@@ -177,15 +178,15 @@ cut_off rows gate file new is image far cut =
       front = ap (take (gate + 1)) cut ∙ take-take (gate + 1) (gate + 1) file (omega arith);
     })
 
--- the gate at the end of the file, torn as it was closed, and closed
+-- the gate at the end of the file, torn while it was closed, and closed
 pub close_torn : (rows : List IndexRow) (gate : ℕ) (file new : List ℕ) → length (open_records rows) ≡ gate → length file ≤ gate + 1 → IsIndexImage rows file → Torn gate 1 file new → IsIndexImage rows new
 close_torn rows gate file new is short image torn =
     let longer = torn.no_shorter in
     let shorter = torn.no_longer in
-    same_front rows gate file new is image torn.before (λ some. let far = size_of_image rows gate file is image some in omega arith) (short_ends (drop gate new) (omega (arith, length-drop gate new)))
+    same_prefix rows gate file new is image torn.before (λ some. let far = size_of_image rows gate file is image some in omega arith) (short_ends (drop gate new) (omega (arith, length-drop gate new)))
 
 pub gate_closed : (rows : List IndexRow) (gate : ℕ) (file new : List ℕ) → length (open_records rows) ≡ gate → length file ≤ gate + 1 → IsIndexImage rows file → Holds file gate (0 ∷ []) new → new ≡ index_file rows
 unfolding index_file
 gate_closed rows gate file new is short image held =
-    let front : take gate file ≡ open_records rows = ap (take gate) image.bytes ∙ take_at (open_records rows) image.behind gate is in
+    let front : take gate file ≡ open_records rows = ap (take gate) image.bytes ∙ take_at (open_records rows) image.following gate is in
     held ∙ ap (λ (xs : List ℕ). xs ++ 0 ∷ drop (gate + 1) file) front ∙ ap (λ (xs : List ℕ). open_records rows ++ 0 ∷ xs) (drop_all (gate + 1) file short)

@@ -1,4 +1,3 @@
 pub mod ImageLaws
 pub mod ReadLaws
 pub mod SearchLaws
-pub mod TestLaws

@@ -10,7 +10,7 @@ use Rattle.rb_log_defs.specs.Index.{index_record}
 use Rattle.rb_device_defs.specs.Index.{HasRoom, IsIndexImage, open_records, begins_with_record}
 use Rattle.rb_index.proofs.ImageLaws.{length_record, length_open}
 
--- the row at the head of the rows, where the bytes begin with a record that is taken
+-- the first row, if the bytes begin with a record that can be taken
 pub record IsNext (rows : List IndexRow) (bytes : List ℕ) : Type 0 where
   pub row : IndexRow
   pub left : List IndexRow
@@ -21,8 +21,8 @@ pub record IsNext (rows : List IndexRow) (bytes : List ℕ) : Type 0 where
 next_row : (rows : List IndexRow) (bytes : List ℕ) → IsIndexImage rows bytes → begins_with_record bytes ≡ true → IsNext rows bytes
 next_row [] bytes image begins = absurd (true≢false (sym begins ∙ ap begins_with_record image.bytes ∙ image.ended))
 next_row (row ∷ left) bytes image begins =
-    let tail = open_records left ++ image.behind in
-    let head : drop 1 bytes ≡ index_record row ++ tail = ap (drop 1) image.bytes ∙ append_assoc (index_record row) (open_records left) image.behind in
+    let tail = open_records left ++ image.following in
+    let head : drop 1 bytes ≡ index_record row ++ tail = ap (drop 1) image.bytes ∙ append_assoc (index_record row) (open_records left) image.following in
     let rest : drop 65 bytes ≡ tail = sym (drop-drop 64 1 bytes) ∙ ap (drop 64) head ∙ drop_at (index_record row) tail 64 (length_record row) in
     record {
       row = row;
@@ -30,7 +30,7 @@ next_row (row ∷ left) bytes image begins =
       split = refl;
       head = head ∙ ap (λ (xs : List ℕ). index_record row ++ xs) (sym rest);
       image = record {
-        behind = image.behind;
+        following = image.following;
         bytes = rest;
         more = λ _. image.more (λ none. let none : row ∷ left ≡ [] = none in cc);
         ended = image.ended;
@@ -40,8 +40,8 @@ next_row (row ∷ left) bytes image begins =
 no_row : (rows : List IndexRow) (bytes : List ℕ) → IsIndexImage rows bytes → begins_with_record bytes ≡ false → rows ≡ []
 no_row [] bytes image ended = refl
 no_row (row ∷ left) bytes image ended =
-    let more : 0 < length image.behind = image.more (λ none. let none : row ∷ left ≡ [] = none in cc) in
-    let size : 65 < length bytes = omega (arith, ap length image.bytes, length-append (open_records (row ∷ left)) image.behind, length_open (row ∷ left)) in
+    let more : 0 < length image.following = image.more (λ none. let none : row ∷ left ≡ [] = none in cc) in
+    let size : 65 < length bytes = omega (arith, ap length image.bytes, length-append (open_records (row ∷ left)) image.following, length_open (row ∷ left)) in
     let gate : get_or bytes 0 0 ≡ 1 = ap (λ (xs : List ℕ). get_or xs 0 0) image.bytes in
     absurd (true≢false (sym (begins gate size) ∙ ended)) where
       begins : get_or bytes 0 0 ≡ 1 → 65 < length bytes → begins_with_record bytes ≡ true

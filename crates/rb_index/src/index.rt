@@ -11,13 +11,13 @@ use rb_disk::{DiskLogFault, LogDisk};
 use std::alloc::Global;
 use std::marker::Model;
 
-/// The file of the device that the index is in.
+/// The file of the device that holds the index.
 const INDEX_FILE: u32 = 0;
 
-/// Where the first event of the log stands, by file and position.
+/// The place of the log's first event, by file and position.
 const FIRST_EVENT: (u32, u64) = (1, 4);
 
-/// The rows of the index, which are on the device too.
+/// The rows of the index, which are also on the device.
 #[derive(Debug, Drop)]
 pub struct EpochIndex {
     rows: Vec<IndexRow>,
@@ -36,7 +36,8 @@ impl Model for EpochIndex {
 }
 
 impl EpochIndex {
-    /// An index without rows: file 0, which is empty before, gets the closed gate of the first record, and is synced.
+    /// Begins an index without rows: file 0, which must be empty, gets the closed gate of the first
+    /// record, and is synced.
     #[tactic(auto, unfolding(rb_log_defs::specs::Index::index_file))]
     pub fn create<D: LogDisk>(alloc: Global, disk: &mut D) -> Result<EpochIndex, DiskLogFault>
         requires empty { D.seen disk.old 0 ≡ [] }
@@ -52,8 +53,9 @@ impl EpochIndex {
         })
     }
 
-    /// Appends a row, whose epoch is at or above that of the last one: its record and the closed gate of the next one are written
-    /// and synced, and then its gate is opened, and synced. At a fault file 0 is an image of the index as it was, or with the row.
+    /// Appends a row. Its epoch must not be below that of the last one. The record and the closed
+    /// gate of the next one are written and synced; then the record's gate is opened and synced. At
+    /// a fault file 0 is an image of the index with or without the row.
     pub fn append_row<D: LogDisk>(
         &mut self,
         row: IndexRow,
@@ -61,45 +63,52 @@ impl EpochIndex {
     ) -> Result<(), DiskLogFault>
         requires held { D.seen disk.old 0 ≡ index_file self.old }
         requires later { last_epoch_of self.old ≤ row.epoch.0 }
-        ensures appended { OnOk result ((self.new ≡ self.old ++ row ∷ []) × (D.seen disk.new 0 ≡ index_file self.new)) }
-        ensures kept { OnErr result (IsIndexImage self.old (D.seen disk.new 0) ⊎ IsIndexImage (self.old ++ row ∷ []) (D.seen disk.new 0)) }
+        ensures appended { OnOk result ((self.new ≡ self.old ++ row ∷ [])
+            × (D.seen disk.new 0 ≡ index_file self.new)) }
+        ensures kept { OnErr result (IsIndexImage self.old (D.seen disk.new 0)
+            ⊎ IsIndexImage (self.old ++ row ∷ []) (D.seen disk.new 0)) }
         ensures same { OnErr result (self.new ≡ self.old) }
         ensures others { (other : ℕ) → other ≢ 0 → D.seen disk.new other ≡ D.seen disk.old other }
         ensures cause { HasDiskCause (D.fault_count disk.old) (D.fault_count disk.new) result }
     {
-        // The memory first: a row that is on the device is never left out here.
+        // Memory is reserved first, so a row on the device is always in this list.
         self.rows.reserve(1)?;
         add_record(&row, disk)?;
         self.rows.push(row)?;
         Ok(())
     }
 
-    /// Opens an index again from what file 0 reads as, after a call of it that was cut off: the rows whose records can be taken. What
-    /// stands behind them is cut off, and the gate behind them closed. At a fault it can be opened again, with the same rows.
+    /// Recovers an index from file 0 after a call that was cut off. The rows are those whose
+    /// records can be taken. What follows them is cut off, and the gate after them closed. After a
+    /// fault the index can be recovered again, with the same rows.
     pub fn recover<D: LogDisk>(alloc: Global, disk: &mut D) -> Result<EpochIndex, DiskLogFault>
-        requires image { (rows : List IndexRow) × IsIndexImage rows (D.seen disk.old 0) × All HasRoom rows × NeverFall rows }
-        ensures recovered { IfOk result (λ index. (rows : List IndexRow) → IsIndexImage rows (D.seen disk.old 0) → All HasRoom rows →
+        requires image { (rows : List IndexRow) × IsIndexImage rows (D.seen disk.old 0)
+            × All HasRoom rows × NeverFall rows }
+        ensures recovered { IfOk result (λ index. (rows : List IndexRow) →
+            IsIndexImage rows (D.seen disk.old 0) → All HasRoom rows →
             (index ≡ rows) × (D.seen disk.new 0 ≡ index_file rows)) }
-        ensures kept { OnErr result ((rows : List IndexRow) → IsIndexImage rows (D.seen disk.old 0) → IsIndexImage rows (D.seen disk.new 0)) }
+        ensures kept { OnErr result ((rows : List IndexRow) →
+            IsIndexImage rows (D.seen disk.old 0) → IsIndexImage rows (D.seen disk.new 0)) }
         ensures others { (other : ℕ) → other ≢ 0 → D.seen disk.new other ≡ D.seen disk.old other }
         ensures cause { HasDiskCause (D.fault_count disk.old) (D.fault_count disk.new) result }
     {
         let rows = read_rows(alloc, disk)?;
         let gate = (rows.len() * RECORD_SIZE) as u64;
-        cut_behind(gate, disk)?;
+        cut_after(gate, disk)?;
         close_gate(gate, disk)?;
         Ok(EpochIndex { rows })
     }
 
-    /// The rows, the oldest first. It takes no memory.
+    /// Returns the rows, the oldest first. Allocates nothing.
     pub fn rows(&self) -> &[IndexRow]
         ensures { result.now ≡ self.now }
     {
         &self.rows
     }
 
-    /// Where the log goes on after an epoch, by file and position in bytes from its start: behind the last row with an epoch at
-    /// most this one, or, where there is none, at the first event of file 1. The search is logarithmic, and takes no memory.
+    /// Returns the place at which the log continues after an epoch, by file and position in bytes
+    /// from the file's start. It is the end of the last row with an epoch at most this one, or the
+    /// first event of file 1 if there is none. The search is logarithmic, and allocates nothing.
     pub fn position_after(&self, epoch: Epoch) -> (u32, u64)
         ensures { result ≡ position_after self.now epoch.0 }
     {
@@ -115,12 +124,16 @@ impl EpochIndex {
     }
 }
 
-// Writes the record of a row behind the closed gate at the end of the index, and opens the gate once the record is synced. The
-// gate is one byte and a write of its own, so a fault leaves the record out or takes it whole.
+// Writes the record of a row after the closed gate at the end of the index, and opens the gate once
+// the record is synced. The gate is one byte and a write of its own, so a fault leaves the record
+// out or takes it whole.
 fn add_record<D: LogDisk>(row: &IndexRow, disk: &mut D) -> Result<(), DiskLogFault>
     requires some { 0 < length (D.seen disk.old 0) }
-    ensures added { OnOk result ((rows : List IndexRow) → D.seen disk.old 0 ≡ index_file rows → D.seen disk.new 0 ≡ index_file (rows ++ row.now ∷ [])) }
-    ensures kept { OnErr result ((rows : List IndexRow) → D.seen disk.old 0 ≡ index_file rows → IsIndexImage rows (D.seen disk.new 0) ⊎ IsIndexImage (rows ++ row.now ∷ []) (D.seen disk.new 0)) }
+    ensures added { OnOk result ((rows : List IndexRow) → D.seen disk.old 0 ≡ index_file rows →
+        D.seen disk.new 0 ≡ index_file (rows ++ row.now ∷ [])) }
+    ensures kept { OnErr result ((rows : List IndexRow) → D.seen disk.old 0 ≡ index_file rows →
+        IsIndexImage rows (D.seen disk.new 0)
+        ⊎ IsIndexImage (rows ++ row.now ∷ []) (D.seen disk.new 0)) }
     ensures others { (other : ℕ) → other ≢ 0 → D.seen disk.new other ≡ D.seen disk.old other }
     ensures cause { HasDiskCause (D.fault_count disk.old) (D.fault_count disk.new) result }
 {
@@ -132,11 +145,14 @@ fn add_record<D: LogDisk>(row: &IndexRow, disk: &mut D) -> Result<(), DiskLogFau
     Ok(())
 }
 
-// The rows whose records can be taken from file 0, which is synced first: what was read is not to be lost later.
+// Returns the rows whose records can be taken from file 0. The file is synced first, so that what
+// was read is not lost later.
 fn read_rows<D: LogDisk>(alloc: Global, disk: &mut D) -> Result<Vec<IndexRow>, DiskLogFault>
     ensures within { IfOk result (λ taken. 65 * length taken.items ≤ length (D.seen disk.old 0)) }
-    ensures count { IfOk result (λ taken. (rows : List IndexRow) → IsIndexImage rows (D.seen disk.old 0) → length taken.items ≡ length rows) }
-    ensures taken { IfOk result (λ taken. (rows : List IndexRow) → IsIndexImage rows (D.seen disk.old 0) → All HasRoom rows → taken.items ≡ rows) }
+    ensures count { IfOk result (λ taken. (rows : List IndexRow) →
+        IsIndexImage rows (D.seen disk.old 0) → length taken.items ≡ length rows) }
+    ensures taken { IfOk result (λ taken. (rows : List IndexRow) →
+        IsIndexImage rows (D.seen disk.old 0) → All HasRoom rows → taken.items ≡ rows) }
     ensures same { (other : ℕ) → D.seen disk.new other ≡ D.seen disk.old other }
     ensures cause { HasDiskCause (D.fault_count disk.old) (D.fault_count disk.new) result }
 {
@@ -147,11 +163,14 @@ fn read_rows<D: LogDisk>(alloc: Global, disk: &mut D) -> Result<Vec<IndexRow>, D
     Ok(rows)
 }
 
-// The rows of the records at the head of these bytes, as long as a gate is open and its record whole, with a byte behind it.
+// Returns the rows of the first records of these bytes, as long as a gate is open and its record
+// whole, with a byte after it.
 fn take_rows(alloc: Global, bytes: &[u8]) -> Result<Vec<IndexRow>, NoMemory>
     ensures within { IfOk result (λ taken. 65 * length taken.items ≤ length bytes.now) }
-    ensures count { IfOk result (λ taken. (rows : List IndexRow) → IsIndexImage rows bytes.now → length taken.items ≡ length rows) }
-    ensures taken { IfOk result (λ taken. (rows : List IndexRow) → IsIndexImage rows bytes.now → All HasRoom rows → taken.items ≡ rows) }
+    ensures count { IfOk result (λ taken. (rows : List IndexRow) → IsIndexImage rows bytes.now →
+        length taken.items ≡ length rows) }
+    ensures taken { IfOk result (λ taken. (rows : List IndexRow) → IsIndexImage rows bytes.now →
+        All HasRoom rows → taken.items ≡ rows) }
 {
     let mut rows = Vec::new(alloc);
     let mut place = 0;
@@ -162,19 +181,21 @@ fn take_rows(alloc: Global, bytes: &[u8]) -> Result<Vec<IndexRow>, NoMemory>
     Ok(rows)
 }
 
-// Whether a record that is taken stands at the head of these bytes.
+// Returns whether these bytes begin with a record that can be taken.
 fn begins_with_record(bytes: &[u8]) -> bool
     ensures { result ≡ begins_with_record bytes.now }
 {
     bytes.len() > RECORD_SIZE && bytes[0] == OPEN
 }
 
-// Cuts off what stands in file 0 behind the gate at this place, and syncs the cut, so that nothing of it comes back.
-fn cut_behind<D: LogDisk>(gate: u64, disk: &mut D) -> Result<(), DiskLogFault>
+// Truncates file 0 after the gate at this place, and syncs it, so that nothing of the rest comes
+// back.
+fn cut_after<D: LogDisk>(gate: u64, disk: &mut D) -> Result<(), DiskLogFault>
     requires within { gate ≤ length (D.seen disk.old 0) }
     ensures within { OnOk result (gate ≤ length (D.seen disk.new 0)) }
     ensures short { OnOk result (length (D.seen disk.new 0) ≤ gate + 1) }
-    ensures kept { (rows : List IndexRow) → length (open_records rows) ≡ gate → IsIndexImage rows (D.seen disk.old 0) → IsIndexImage rows (D.seen disk.new 0) }
+    ensures kept { (rows : List IndexRow) → length (open_records rows) ≡ gate →
+        IsIndexImage rows (D.seen disk.old 0) → IsIndexImage rows (D.seen disk.new 0) }
     ensures others { (other : ℕ) → other ≢ 0 → D.seen disk.new other ≡ D.seen disk.old other }
     ensures cause { HasDiskCause (D.fault_count disk.old) (D.fault_count disk.new) result }
 {
@@ -190,8 +211,10 @@ fn cut_behind<D: LogDisk>(gate: u64, disk: &mut D) -> Result<(), DiskLogFault>
 fn close_gate<D: LogDisk>(gate: u64, disk: &mut D) -> Result<(), DiskLogFault>
     requires within { gate ≤ length (D.seen disk.old 0) }
     requires short { length (D.seen disk.old 0) ≤ gate + 1 }
-    ensures closed { OnOk result ((rows : List IndexRow) → length (open_records rows) ≡ gate → IsIndexImage rows (D.seen disk.old 0) → D.seen disk.new 0 ≡ index_file rows) }
-    ensures kept { OnErr result ((rows : List IndexRow) → length (open_records rows) ≡ gate → IsIndexImage rows (D.seen disk.old 0) → IsIndexImage rows (D.seen disk.new 0)) }
+    ensures closed { OnOk result ((rows : List IndexRow) → length (open_records rows) ≡ gate →
+        IsIndexImage rows (D.seen disk.old 0) → D.seen disk.new 0 ≡ index_file rows) }
+    ensures kept { OnErr result ((rows : List IndexRow) → length (open_records rows) ≡ gate →
+        IsIndexImage rows (D.seen disk.old 0) → IsIndexImage rows (D.seen disk.new 0)) }
     ensures others { (other : ℕ) → other ≢ 0 → D.seen disk.new other ≡ D.seen disk.old other }
     ensures cause { HasDiskCause (D.fault_count disk.old) (D.fault_count disk.new) result }
 {

@@ -1,14 +1,13 @@
-//! `mysql.ndb_binlog_index` of a site, in file 0 of its log device: where each epoch stands in the binlog.
+//! `mysql.ndb_binlog_index` of a site, in file 0 of its log device: the place of each epoch in the
+//! binlog.
 //!
-//! An [`EpochIndex`] is seen as the list of its rows, the oldest first, and file 0 has their records, each behind a gate. A row
-//! counts once its gate is open, and the gate is opened by a write of its own once the record is synced. Below stand the log
-//! device and the definitions of the index; the injector stands above.
+//! An [`EpochIndex`] is seen as the list of its rows, the oldest first. File 0 has their records,
+//! each after a gate. A row counts once its gate is open, and the gate is opened by a write of its
+//! own after the record is synced. The log device and the definitions of the index stand below; the
+//! injector stands above.
 #![tactic(auto)]
 
 mod index;
 mod record;
 
 pub use index::EpochIndex;
-
-#[cfg(test)]
-mod tests;

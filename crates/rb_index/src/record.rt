@@ -12,10 +12,10 @@ pub(crate) const CLOSED: u8 = 0;
 /// The gate of a record that counts.
 pub(crate) const OPEN: u8 = 1;
 
-/// How many bytes a record has with its gate.
+/// The size of a record with its gate, in bytes.
 pub(crate) const RECORD_SIZE: usize = 65;
 
-/// The record of a row behind its gate, and behind it the closed gate of the next one.
+/// Returns the record of a row without its gate, and the closed gate of the next one.
 #[tactic(auto, unfolding(rb_log_defs::specs::Index::index_record))]
 pub(crate) fn record_array(row: &IndexRow) -> [u8; RECORD_SIZE]
     ensures { result ≡ index_record row.now ++ 0 ∷ [] }
@@ -36,10 +36,11 @@ pub(crate) fn record_array(row: &IndexRow) -> [u8; RECORD_SIZE]
     bytes
 }
 
-/// The row whose record stands at the head of these bytes, which are behind its gate.
+/// Returns the row of the record with which these bytes begin. Its gate is not among them.
 pub(crate) fn read_record(bytes: &[u8]) -> IndexRow
     requires { 64 ≤ length bytes.now }
-    ensures { (row : IndexRow) (rest : List ℕ) → HasRoom row → bytes.now ≡ index_record row ++ rest → result ≡ row }
+    ensures { (row : IndexRow) (rest : List ℕ) → HasRoom row →
+        bytes.now ≡ index_record row ++ rest → result ≡ row }
 {
     IndexRow {
         epoch: Epoch(LittleEndian::read_u64(bytes)),

@@ -1,4 +1,4 @@
--- How a body's tables and its reflected epoch are put together.
+-- The tables of a body, and its reflected epoch.
 use Rattle.std.proofs.Common.{◌≡◌, ℕ, ◌+◌, ◌<◌, Bool, List, [], ◌∷◌, ◌++◌, length, take, filter, refl, sym, ap, ◌∙◌, get_or}
 use Rattle.std.specs.Prelude.{Option, Some, None, if◌then◌else◌, filter_map}
 use Rattle.std.specs.List.{flat_map, last_or}
@@ -17,29 +17,29 @@ named_more named tables i table before after test within is so_far now same =
     ∙ sym (filter-append named (take i tables) (table ∷ []))
     ∙ ap (filter named) (sym (take_more tables i table within ∙ ap (λ (t : Mapped). take i tables ++ t ∷ []) (sym is)))
 
--- the last item of two lists, one behind the other
+-- the last item of two lists, joined
 pub last_or_append : {X : Type 0} (xs ys : List X) (o : Option X) → last_or o (xs ++ ys) ≡ last_or (last_or o xs) ys
 last_or_append [] ys o = refl
 last_or_append (x ∷ xs) ys o = last_or_append xs ys (Some x)
 
--- the last that is told by one part more
-pub told_more : (told : Change → Option Epoch) (parts : List (List Change)) (i : ℕ) (part : List Change) (before after : Option Epoch) → i < length parts → part ≡ get_or parts i part → before ≡ last_or None (filter_map told (flat_map (λ p. p) (take i parts))) → after ≡ last_or before (filter_map told part) → after ≡ last_or None (filter_map told (flat_map (λ p. p) (take (i + 1) parts)))
-told_more told parts i part before after within is so_far now =
+-- the last epoch that one more part records
+pub told_more : (applied : Change → Option Epoch) (parts : List (List Change)) (i : ℕ) (part : List Change) (before after : Option Epoch) → i < length parts → part ≡ get_or parts i part → before ≡ last_or None (filter_map applied (flat_map (λ p. p) (take i parts))) → after ≡ last_or before (filter_map applied part) → after ≡ last_or None (filter_map applied (flat_map (λ p. p) (take (i + 1) parts)))
+told_more applied parts i part before after within is so_far now =
     let earlier : List Change = flat_map (λ p. p) (take i parts) in
     let joined : earlier ++ part ≡ flat_map (λ p. p) (take (i + 1) parts) =
     flat_map_more {X = List Change} {A = Change} (λ p. p) [] (take i parts) part
     ∙ ap (flat_map (λ p. p)) (sym (take_more parts i part within ∙ ap (λ (p : List Change). take i parts ++ p ∷ []) (sym is))) in
     now
-    ∙ ap (λ (o : Option Epoch). last_or o (filter_map told part)) so_far
-    ∙ sym (last_or_append (filter_map told earlier) (filter_map told part) None)
-    ∙ ap (last_or None) (sym (filter_map-append told earlier part))
-    ∙ ap (λ (changes : List Change). last_or None (filter_map told changes)) joined
+    ∙ ap (λ (o : Option Epoch). last_or o (filter_map applied part)) so_far
+    ∙ sym (last_or_append (filter_map applied earlier) (filter_map applied part) None)
+    ∙ ap (last_or None) (sym (filter_map-append applied earlier part))
+    ∙ ap (λ (changes : List Change). last_or None (filter_map applied changes)) joined
 
--- the last that is told by one change more
-pub told_by_more : (told : Change → Option Epoch) (changes : List Change) (i : ℕ) (change : Change) (first before after : Option Epoch) → i < length changes → change ≡ get_or changes i change → before ≡ last_or first (filter_map told (take i changes)) → after ≡ last_or before (filter_map told (change ∷ [])) → after ≡ last_or first (filter_map told (take (i + 1) changes))
-told_by_more told changes i change first before after within is so_far now =
+-- the last epoch that one more change records
+pub told_by_more : (applied : Change → Option Epoch) (changes : List Change) (i : ℕ) (change : Change) (first before after : Option Epoch) → i < length changes → change ≡ get_or changes i change → before ≡ last_or first (filter_map applied (take i changes)) → after ≡ last_or before (filter_map applied (change ∷ [])) → after ≡ last_or first (filter_map applied (take (i + 1) changes))
+told_by_more applied changes i change first before after within is so_far now =
     now
-    ∙ ap (λ (o : Option Epoch). last_or o (filter_map told (change ∷ []))) so_far
-    ∙ sym (last_or_append (filter_map told (take i changes)) (filter_map told (change ∷ [])) first)
-    ∙ ap (last_or first) (sym (filter_map-append told (take i changes) (change ∷ [])))
-    ∙ ap (λ (cs : List Change). last_or first (filter_map told cs)) (sym (take_more changes i change within ∙ ap (λ (c : Change). take i changes ++ c ∷ []) (sym is)))
+    ∙ ap (λ (o : Option Epoch). last_or o (filter_map applied (change ∷ []))) so_far
+    ∙ sym (last_or_append (filter_map applied (take i changes)) (filter_map applied (change ∷ [])) first)
+    ∙ ap (last_or first) (sym (filter_map-append applied (take i changes) (change ∷ [])))
+    ∙ ap (λ (cs : List Change). last_or first (filter_map applied cs)) (sym (take_more changes i change within ∙ ap (λ (c : Change). take i changes ++ c ∷ []) (sym is)))

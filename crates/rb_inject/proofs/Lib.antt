@@ -1,4 +1,3 @@
 mod BodyLaws
-mod LogLaws
+pub mod LogLaws
 mod OpenLaws
-mod TestLaws

@@ -8,10 +8,10 @@ use Rattle.rb_log_defs.specs.Epoch.{epoch_bytes}
 use Rattle.rb_log_defs.specs.File.{Binlog, files_in, new_binlog, rotated_at, binlog_of, index_rows}
 use Rattle.rb_log_defs.specs.Index.{index_row, index_file}
 use Rattle.rb_log_defs.proofs.Sizes.{epoch_same_length}
-use Rattle.rb_device_defs.specs.Files.{HoldsFront}
+use Rattle.rb_device_defs.specs.Files.{HoldsPrefix}
 use Rattle.rb_device_defs.specs.Index.{IsIndexImage}
 use Rattle.rb_device_defs.specs.Image.{IsLogImage}
-use Rattle.rb_device_defs.proofs.FrontLaws.{front_of_all, to_end_of_longer}
+use Rattle.rb_device_defs.proofs.PrefixLaws.{prefix_of_all, to_end_of_longer}
 use Rattle.rb_device_defs.proofs.RowLaws.{unrotated, last_below}
 use Rattle.rb_device_defs.proofs.ImageLaws.{row_of, index_is_image, image_to_end, image_with, log_with, binlog_with, rows_with}
 use Rattle.rb_binlog.specs.Binlog as binlog
@@ -32,11 +32,11 @@ use Rattle.rb_inject.specs.declared.injector.Injector.{Injector}
 abbrev pub log_of : LogSetup → List EpochBody → Binlog
 log_of setup bodies = binlog_of setup.site setup.limit bodies
 
--- where the last file of an injector ends
+-- the end of an injector's last file
 pub end_small : (injector : Injector) (setup : LogSetup) (bodies : List EpochBody) (seen : ℕ → List ℕ) → StandsFor injector setup bodies seen → binlog.length_of injector.files ≤ 67108864
 end_small injector setup bodies seen stands = omega (arith, stands.files.length_is, last_below setup.site setup.limit bodies stands.legal.limit.0, stands.legal.limit.1)
 
--- files that stand for a binlog stand for it whatever its rows are
+-- files that represent a binlog represent it whatever its rows are
 pub other_rows : (files : BinlogFiles) (site : SiteId) (log : Binlog) (rows : List IndexRow) (seen : ℕ → List ℕ) → binlog.StandsFor files site log seen → binlog.StandsFor files site (record { closed = log.closed; last = log.last; rows = rows }) seen
 other_rows files site log rows seen stands = record { site_is = stands.site_is; number_is = stands.number_is; few = stands.few; length_is = stands.length_is; held = stands.held }
 
@@ -53,7 +53,7 @@ same_files files site log old new same stands = record {
   held = λ number some. same number (λ zero. omega (arith, zero, some)) ∙ stands.held number some;
 }
 
--- the files behind an epoch's bytes stand for the binlog with the epoch, before any rotation
+-- the files after an epoch's bytes represent the binlog with the epoch, before any rotation
 pub grown : (files : BinlogFiles) (site : SiteId) (log : Binlog) (body : EpochBody) (bytes : List ℕ) (seen : ℕ → List ℕ) → bytes ≡ epoch_bytes body (length log.last) → binlog.StandsFor files site (record log { last = log.last ++ bytes }) seen → binlog.StandsFor files site (unrotated site log body) seen
 grown files site log body bytes seen same stands =
     other_rows files site (record log { last = log.last ++ epoch_bytes body (length log.last) }) (unrotated site log body).rows seen
@@ -67,16 +67,16 @@ row_is site other log body file position next same_site same_file same_position 
     ∙ ap (λ (f : ℕ). index_row other f (length log.last) (length log.last + length (epoch_bytes body (length log.last))) body) same_file
     ∙ ap (λ (s : SiteId). index_row s (length log.closed + 1) (length log.last) (length log.last + length (epoch_bytes body (length log.last))) body) same_site
 
--- a front by other numbers
-front_by : (number position other end : ℕ) (files : List (List ℕ)) (seen : ℕ → List ℕ) → number ≡ other → position ≡ end → HoldsFront number position files seen → HoldsFront other end files seen
-front_by number position other end files seen same ends held = subst (λ (n : ℕ). HoldsFront n end files seen) same (subst (λ (p : ℕ). HoldsFront number p files seen) ends held)
+-- a prefix by other numbers
+prefix_by : (number position other end : ℕ) (files : List (List ℕ)) (seen : ℕ → List ℕ) → number ≡ other → position ≡ end → HoldsPrefix number position files seen → HoldsPrefix other end files seen
+prefix_by number position other end files seen same ends held = subst (λ (n : ℕ). HoldsPrefix n end files seen) same (subst (λ (p : ℕ). HoldsPrefix number p files seen) ends held)
 
 -- the epoch's bytes were not appended, or not all
-pub append_failed : (injector : Injector) (setup : LogSetup) (bodies : List EpochBody) (old new : ℕ → List ℕ) → StandsFor injector setup bodies old → new 0 ≡ old 0 → HoldsFront (binlog.number_of injector.files) (binlog.length_of injector.files) (files_in (log_of setup bodies)) new → IsLogImage setup.site setup.limit bodies new
+pub append_failed : (injector : Injector) (setup : LogSetup) (bodies : List EpochBody) (old new : ℕ → List ℕ) → StandsFor injector setup bodies old → new 0 ≡ old 0 → HoldsPrefix (binlog.number_of injector.files) (binlog.length_of injector.files) (files_in (log_of setup bodies)) new → IsLogImage setup.site setup.limit bodies new
 append_failed injector setup bodies old new stands same held =
     image_to_end setup.site setup.limit bodies new
     (subst (λ (file : List ℕ). IsIndexImage (index_rows setup.site setup.limit bodies) file) (sym (same ∙ stands.held.index)) (index_is_image (index_rows setup.site setup.limit bodies)))
-    (front_by _ _ _ _ (files_in (log_of setup bodies)) new stands.files.number_is stands.files.length_is held)
+    (prefix_by _ _ _ _ (files_in (log_of setup bodies)) new stands.files.number_is stands.files.length_is held)
 
 -- its row was not appended, or its gate not synced
 pub row_failed : (injector : Injector) (files : BinlogFiles) (setup : LogSetup) (bodies : List EpochBody) (body : EpochBody) (row : IndexRow) (old between new : ℕ → List ℕ) → StandsFor injector setup bodies old → binlog.StandsFor files setup.site (unrotated setup.site (log_of setup bodies) body) between → SameBinlog between new → row ≡ row_of setup.site (log_of setup bodies) body → length (epoch_bytes body 0) ≤ 2147483647 → IsIndexImage injector.index (new 0) ⊎ IsIndexImage (injector.index ++ row ∷ []) (new 0) → LeavesImage setup bodies body new
@@ -92,18 +92,18 @@ row_failed injector files setup bodies body row old between new stands appended 
       small,
       image_with setup.site setup.limit bodies body new
           (subst (λ (r : IndexRow). IsIndexImage (index_rows setup.site setup.limit bodies ++ r ∷ []) (new 0)) is (subst (λ (rows : List IndexRow). IsIndexImage (rows ++ row ∷ []) (new 0)) stands.rows with_row))
-          (front_of_all _ _ (files_in (unrotated setup.site (log_of setup bodies) body)) new (omega arith) whole.held),
+          (prefix_of_all _ _ (files_in (unrotated setup.site (log_of setup bodies) body)) new (omega arith) whole.held),
     )
 
 -- the file was not rotated, or not to the end
-pub rotation_failed : (files : BinlogFiles) (setup : LogSetup) (bodies : List EpochBody) (body : EpochBody) (old new : ℕ → List ℕ) → binlog.StandsFor files setup.site (unrotated setup.site (log_of setup bodies) body) old → old 0 ≡ index_file (index_rows setup.site setup.limit bodies ++ row_of setup.site (log_of setup bodies) body ∷ []) → new 0 ≡ old 0 → HoldsFront (binlog.number_of files) (binlog.length_of files) (files_in (unrotated setup.site (log_of setup bodies) body)) new → length (epoch_bytes body 0) ≤ 2147483647 → LeavesImage setup bodies body new
+pub rotation_failed : (files : BinlogFiles) (setup : LogSetup) (bodies : List EpochBody) (body : EpochBody) (old new : ℕ → List ℕ) → binlog.StandsFor files setup.site (unrotated setup.site (log_of setup bodies) body) old → old 0 ≡ index_file (index_rows setup.site setup.limit bodies ++ row_of setup.site (log_of setup bodies) body ∷ []) → new 0 ≡ old 0 → HoldsPrefix (binlog.number_of files) (binlog.length_of files) (files_in (unrotated setup.site (log_of setup bodies) body)) new → length (epoch_bytes body 0) ≤ 2147483647 → LeavesImage setup bodies body new
 rotation_failed files setup bodies body old new stands index same held small =
     let rows : List IndexRow = index_rows setup.site setup.limit bodies ++ row_of setup.site (log_of setup bodies) body ∷ [] in
     inr (
       small,
       image_with setup.site setup.limit bodies body new
           (subst (λ (file : List ℕ). IsIndexImage rows file) (sym (same ∙ index)) (index_is_image rows))
-          (front_by _ _ _ _ (files_in (unrotated setup.site (log_of setup bodies) body)) new stands.number_is stands.length_is held),
+          (prefix_by _ _ _ _ (files_in (unrotated setup.site (log_of setup bodies) body)) new stands.number_is stands.length_is held),
     )
 
 -- all was done

@@ -1,5 +1,6 @@
--- The body of an epoch that was assembled. After the manual's chapter on NDB Cluster Replication: a site logs the changes of its own
--- clients, and a secondary tells which epoch of the primary it has applied.
+-- The body of an assembled epoch. After the chapter of the MySQL manual on NDB Cluster Replication:
+-- a site logs the changes of its own clients, and a secondary records which epoch of the primary it
+-- has applied.
 use Rattle.std.specs.Prelude.{◌==◌, ◌&&◌, if◌then◌else◌, List, [], ◌∷◌, filter, filter_map, Option, Some, None}
 use Rattle.std.specs.List.{flat_map, last_or}
 use Rattle.rb_base.specs.Site.{server_of}
@@ -19,30 +20,30 @@ use Rattle.rb_journal_defs.specs.Body.{is_logged, is_named_in}
 abbrev pub changes_in_parts : List (List Change) → List Change
 changes_in_parts parts = flat_map (λ part. part) parts
 
--- those that are logged
+-- the changes that are logged
 abbrev pub logged_of : SiteId → List (List Change) → List Change
 logged_of site parts = filter (is_logged site) (changes_in_parts parts)
 
--- the epoch behind the server id in a row of the apply-status table
-abbrev pub epoch_behind : List Value → Option Epoch
-epoch_behind [] = None
-epoch_behind (server ∷ []) = None
-epoch_behind (server ∷ values.Num epoch ∷ others) = Some (record { 0 = epoch })
-epoch_behind (server ∷ values.Text text ∷ others) = None
+-- the epoch after the server id, in a row of the apply-status table
+abbrev pub epoch_following : List Value → Option Epoch
+epoch_following [] = None
+epoch_following (server ∷ []) = None
+epoch_following (server ∷ values.Num epoch ∷ others) = Some (record { 0 = epoch })
+epoch_following (server ∷ values.Text text ∷ others) = None
 
 -- the same for an image that may be absent
 abbrev pub epoch_in_image : Option Row → Option Epoch
 epoch_in_image None = None
-epoch_in_image (Some row) = epoch_behind row.values
+epoch_in_image (Some row) = epoch_following row.values
 
--- the primary's epoch that a change of its row of the apply-status table tells
-abbrev pub epoch_told : Change → Option Epoch
-epoch_told change = if (change.table == 0) && (change.key == 1) then epoch_in_image change.after else None
+-- the epoch of the primary that a change of its row of the apply-status table records
+abbrev pub applied_epoch_in : Change → Option Epoch
+applied_epoch_in change = if (change.table == 0) && (change.key == 1) then epoch_in_image change.after else None
 
--- the reflected epoch: the last one that is told, at the secondary
+-- the reflected epoch: at the secondary, the last epoch that was recorded as applied
 abbrev pub reflected_of : SiteId → List (List Change) → Option Epoch
 reflected_of A parts = None
-reflected_of B parts = last_or None (filter_map epoch_told (changes_in_parts parts))
+reflected_of B parts = last_or None (filter_map applied_epoch_in (changes_in_parts parts))
 
 -- the body of an assembled epoch of a site with these tables
 abbrev pub body_of_assembled : SiteId → List Mapped → Assembled → EpochBody

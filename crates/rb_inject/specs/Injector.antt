@@ -1,4 +1,4 @@
--- What an injector stands for.
+-- What an injector represents.
 use Rattle.std.specs.Prelude.{◌≡◌, ℕ, ◌≤◌, ◌<◌, ◌⊎◌, if◌then◌else◌, List, [], ◌∷◌, ◌++◌, length, All, Option, None, IfSome}
 use Rattle.std.specs.List.{last_or}
 use Rattle.rb_base.specs.declared.site.SiteId.{SiteId}
@@ -42,7 +42,7 @@ pub record StandsFor (injector : Injector) (setup : LogSetup) (bodies : List Epo
   pub rows : injector.index ≡ index_rows setup.site setup.limit bodies
   pub held : HoldsLog setup.site setup.limit bodies seen
 
--- it has logged some bodies
+-- the injector has logged some bodies
 abbrev pub Stands : Injector → (seen : ℕ → List ℕ) → Type 0
 Stands injector seen = (setup : LogSetup) × (bodies : List EpochBody) × StandsFor injector setup bodies seen
 
@@ -58,18 +58,19 @@ written_of injector = last_epoch_of injector.index
 abbrev pub body_for : Injector → Assembled → EpochBody
 body_for injector assembled = body_of_assembled injector.site injector.tables assembled
 
--- these bodies and one more where it has something to log
+-- these bodies, and one more if it has something to log
 abbrev pub bodies_with : List EpochBody → EpochBody → List EpochBody
 bodies_with bodies body = if has_something_to_log body then bodies ++ body ∷ [] else bodies
 
--- what a fault leaves: an image of the log without the epoch in hand, or, where that is not too large, with it
+-- what a fault leaves: an image of the log without the epoch in hand, or with it if it is not too
+-- large
 abbrev pub LeavesImage : LogSetup → List EpochBody → EpochBody → (seen : ℕ → List ℕ) → Type 0
 LeavesImage setup bodies body seen =
     IsLogImage setup.site setup.limit bodies seen
     ⊎ ((length (epoch_bytes body 0) ≤ 2147483647) × IsLogImage setup.site setup.limit (bodies ++ body ∷ []) seen)
 
--- a device on which a log of these bodies can be opened again: it is an image of it, the bodies can be logged, and the last row's file
--- has a number that leaves room for one more
+-- a device from which a log of these bodies can be recovered: it holds an image of it, the bodies
+-- can be logged, and the last row's file has a number that leaves room for one more
 pub record CanBeRecovered (setup : LogSetup) (bodies : List EpochBody) (seen : ℕ → List ℕ) : Type 0 where
   pub image : IsLogImage setup.site setup.limit bodies seen
   pub logged : CanBeLogged bodies

@@ -3,7 +3,7 @@ ghost use Rattle.std.specs.List.{list_any, last_or, flat_map};
 ghost use Rattle.std.specs.Ordering.{nat_cmp};
 ghost use Rattle.std.specs.BTreeSet.{contains};
 ghost use Rattle.rb_journal_defs.specs.Body.{is_logged, is_named_in, has_something_to_log};
-ghost use Rattle.rb_inject.specs.Body.{logged_of, epoch_told, reflected_of, body_of_assembled};
+ghost use Rattle.rb_inject.specs.Body.{logged_of, applied_epoch_in, reflected_of, body_of_assembled};
 
 use rb_base::{
     Change, Changes, Epoch, EpochBody, Items, Mapped, MappedTables, NoMemory, Parts, SiteId, Value,
@@ -12,7 +12,7 @@ use rb_message_defs::Assembled;
 use std::alloc::Global;
 use std::collections::BTreeSet;
 
-/// What the injector logs of an assembled epoch of a site with these tables.
+/// Returns what the injector logs of an assembled epoch, at a site with these tables.
 pub(crate) fn body_of(
     alloc: Global,
     site: SiteId,
@@ -33,48 +33,51 @@ pub(crate) fn body_of(
     })
 }
 
-/// A body has something to log.
+/// Returns whether a body has something to log.
 pub(crate) fn has_something(body: &EpochBody) -> bool
     ensures { result ≡ has_something_to_log body.now }
 {
     !body.changes.as_slice().is_empty() || body.reflected.is_some()
 }
 
-// The last epoch of the primary that these parts tell, at the secondary.
+// Returns the reflected epoch of these parts: at the secondary, the last epoch of the primary that
+// a change records as applied.
 fn reflected_in(site: SiteId, parts: &[Changes]) -> Option<Epoch>
     ensures { result ≡ reflected_of site parts.now }
 {
     match site {
         SiteId::A => None,
-        SiteId::B => last_told_in_all(parts),
+        SiteId::B => last_applied_in_all(parts),
     }
 }
 
-// The last epoch of the primary that a change of these parts tells.
-fn last_told_in_all(parts: &[Changes]) -> Option<Epoch>
-    ensures { result ≡ last_or None (filter_map epoch_told (flat_map (λ part. part) parts.now)) }
+// Returns the last epoch of the primary that a change of these parts records as applied.
+fn last_applied_in_all(parts: &[Changes]) -> Option<Epoch>
+    ensures { result ≡ last_or None
+        (filter_map applied_epoch_in (flat_map (λ part. part) parts.now)) }
 {
-    let mut told = None;
+    let mut applied = None;
     for part in parts {
-        told = last_told(told, part.as_slice());
+        applied = last_applied(applied, part.as_slice());
     }
-    told
+    applied
 }
 
-// The last epoch of the primary that one of these changes tells, or the one told before.
-fn last_told(before: Option<Epoch>, changes: &[Change]) -> Option<Epoch>
-    ensures { result ≡ last_or before (filter_map epoch_told changes.now) }
+// Returns the last epoch of the primary that one of these changes records as applied, or else
+// `before`.
+fn last_applied(before: Option<Epoch>, changes: &[Change]) -> Option<Epoch>
+    ensures { result ≡ last_or before (filter_map applied_epoch_in changes.now) }
 {
-    let mut told = before;
+    let mut applied = before;
     for change in changes {
-        told = told_or(told, change);
+        applied = applied_or(applied, change);
     }
-    told
+    applied
 }
 
-// The epoch of the primary that a change tells, or the one told before.
-fn told_or(before: Option<Epoch>, change: &Change) -> Option<Epoch>
-    ensures { result ≡ last_or before (filter_map epoch_told (change.now ∷ [])) }
+// Returns the epoch of the primary that a change records as applied, or else `before`.
+fn applied_or(before: Option<Epoch>, change: &Change) -> Option<Epoch>
+    ensures { result ≡ last_or before (filter_map applied_epoch_in (change.now ∷ [])) }
 {
     if change.table != 0 || change.key != 1 {
         return before;
@@ -87,7 +90,7 @@ fn told_or(before: Option<Epoch>, change: &Change) -> Option<Epoch>
         _ => before,
     }
 }
-// The changes of these parts that are logged, bucket 0 first.
+// Returns the changes of these parts that are logged, bucket 0 first.
 fn logged_changes(alloc: Global, site: SiteId, parts: Parts) -> Result<Vec<Change>, NoMemory>
     ensures { IfOk result (λ changes. changes.items ≡ logged_of site parts) }
 {
@@ -110,7 +113,7 @@ fn append_logged(changes: &mut Vec<Change>, site: SiteId, part: Changes) -> Resu
     Ok(())
 }
 
-// Those of these tables that changes name.
+// Returns those of these tables that changes name.
 fn named_tables(
     alloc: Global,
     tables: &[Mapped],
@@ -126,14 +129,15 @@ fn named_tables(
     Ok(named)
 }
 
-// Appends a table whose number is one of these.
+// Appends a table if its number is one of these.
 fn append_named(
     alloc: Global,
     named: &mut MappedTables,
     numbers: &BTreeSet<u16>,
     table: &Mapped,
 ) -> Result<(), NoMemory>
-    ensures { OnOk result (named.new ≡ named.old ++ (if contains nat_cmp numbers.now table.now.id then table.now ∷ [] else [])) }
+    ensures { OnOk result (named.new ≡ named.old
+        ++ (if contains nat_cmp numbers.now table.now.id then table.now ∷ [] else [])) }
 {
     if !numbers.contains(&table.id) {
         return Ok(());
@@ -142,9 +146,10 @@ fn append_named(
     Ok(())
 }
 
-// The numbers of the tables that changes name.
+// Returns the numbers of the tables that changes name.
 fn named_numbers(alloc: Global, changes: &[Change]) -> Result<BTreeSet<u16>, NoMemory>
-    ensures { IfOk result (λ numbers. (number : ℕ) → contains nat_cmp numbers number ≡ list_any (λ change. change.table == number) changes.now) }
+    ensures { IfOk result (λ numbers. (number : ℕ) →
+        contains nat_cmp numbers number ≡ list_any (λ change. change.table == number) changes.now) }
 {
     let mut numbers = BTreeSet::new(alloc);
     for change in changes {

@@ -9,9 +9,10 @@ use rb_etx::EncodeFault;
 /// Why an epoch was not logged, or a log not begun.
 #[derive(Clone, Copy, Debug, PartialEq, Eq)]
 pub enum InjectFault {
-    /// A log is begun on an empty device alone: this file, the lowest that is not empty, has so many bytes.
+    /// A log begins on an empty device only. This file, the lowest that is not empty, has `length`
+    /// bytes.
     NotEmpty { file: u32, length: u64 },
-    /// The epoch would take so many bytes, more than 2147483647. The device was not touched.
+    /// The epoch would take this many bytes, more than 2147483647. The device was not touched.
     TooLarge(u64),
     /// The device failed, and its count of faults rose.
     DiskFault,

@@ -38,8 +38,9 @@ pub struct Injector {
 impl Injector {
     ghost use Rattle.rb_inject.specs.Injector.{LogSetup, IsLogSetup, StandsFor, Stands, LeavesImage, CanBeRecovered, bodies_with, body_for, last_file_of, written_of, limit_of};
 
-    /// A log without an epoch, on an empty device: first the index in file 0, then file 1. Binlog files are rotated where they have
-    /// come to `limit`, in bytes, 512 to 67108864. `NotEmpty` names the lowest file that is not empty, and leaves the device as it was.
+    /// Begins a log without an epoch on an empty device: first the index in file 0, then file 1.
+    /// Binlog files are rotated when they reach `limit` bytes, 512 to 67108864. `NotEmpty` names
+    /// the lowest file that is not empty, and leaves the device unchanged.
     pub fn create<D: LogDisk>(
         alloc: Global,
         site: SiteId,
@@ -48,12 +49,18 @@ impl Injector {
         disk: &mut D,
     ) -> Result<Injector, InjectFault>
         requires setup { IsLogSetup (record { site = site; limit = limit; tables = tables }) }
-        ensures created { IfOk result (λ injector. StandsFor injector (record { site = site; limit = limit; tables = tables }) [] (D.seen disk.new)) }
-        ensures not_empty { (file size : ℕ) → result ≡ Err (InjectFault.NotEmpty file size) → IsLowestFile file size (D.seen disk.old) }
-        ensures refused { (file size : ℕ) → IsLowestFile file size (D.seen disk.old) → IsNotEmpty result }
-        ensures untouched { IsNotEmpty result → (file : ℕ) → D.seen disk.new file ≡ D.seen disk.old file }
+        ensures created { IfOk result (λ injector.
+            StandsFor injector (record { site = site; limit = limit; tables = tables }) []
+            (D.seen disk.new)) }
+        ensures not_empty { (file size : ℕ) → result ≡ Err (InjectFault.NotEmpty file size) →
+            IsLowestFile file size (D.seen disk.old) }
+        ensures refused { (file size : ℕ) → IsLowestFile file size (D.seen disk.old) →
+            IsNotEmpty result }
+        ensures untouched { IsNotEmpty result → (file : ℕ) →
+            D.seen disk.new file ≡ D.seen disk.old file }
         ensures no_size { IsTooLarge result → ⊥ }
-        ensures stopped { OnErr result (((file : ℕ) → D.seen disk.old file ≡ []) → IsLogImage site limit [] (D.seen disk.new)) }
+        ensures stopped { OnErr result (((file : ℕ) → D.seen disk.old file ≡ []) →
+            IsLogImage site limit [] (D.seen disk.new)) }
         ensures cause { HasInjectCause (D.fault_count disk.old) (D.fault_count disk.new) result }
     {
         if let Some((file, length)) = lowest_file(disk) {
@@ -71,10 +78,13 @@ impl Injector {
         })
     }
 
-    /// Takes an assembled epoch above the last one in the log. Where it has something to log, it is appended to the last file and
-    /// synced, its row is appended to the index, and the file is rotated where it has come to the limit; and it answers true. Where
-    /// there is nothing, the device is not touched. `TooLarge` tells the size of an epoch of more than 2147483647 bytes, and leaves
-    /// the device as it was. After any fault the injector is gone, and `recover` opens the log.
+    /// Takes an assembled epoch above the last one in the log. If it has something to log, its
+    /// bytes are appended to the last file and synced, its row is appended to the index, and the
+    /// file is rotated if it has reached the limit; the result is `true`. Otherwise the device is
+    /// not touched, and the result is `false`.
+    ///
+    /// `TooLarge` gives the size of an epoch of more than 2147483647 bytes, and leaves the device
+    /// unchanged. After any fault the injector is gone, and `recover` recovers its log.
     pub fn take<D: LogDisk>(
         self,
         assembled: Assembled,
@@ -85,17 +95,26 @@ impl Injector {
         requires writable { CanBeWritten (body_for self assembled) }
         requires few { length (body_for self assembled).changes < 2 ^ 32 }
         requires few_files { last_file_of self < 4294967294 }
-        ensures taken { IfOk result (λ pair. (setup : LogSetup) (bodies : List EpochBody) → StandsFor self setup bodies (D.seen disk.old) →
-            StandsFor pair.0 setup (bodies_with bodies (body_of_assembled setup.site setup.tables assembled)) (D.seen disk.new)) }
-        ensures logged { IfOk result (λ pair. pair.1 ≡ has_something_to_log (body_for self assembled)) }
-        ensures size { IfOk result (λ pair. pair.1 ≡ true → length (epoch_bytes (body_for self assembled) 0) ≤ 2147483647) }
-        ensures too_large { (size : ℕ) → result ≡ Err (InjectFault.TooLarge size) → (size ≡ length (epoch_bytes (body_for self assembled) 0)) × (2147483647 < size)
+        ensures taken { IfOk result (λ pair. (setup : LogSetup) (bodies : List EpochBody) →
+            StandsFor self setup bodies (D.seen disk.old) →
+            StandsFor pair.0 setup (bodies_with bodies
+            (body_of_assembled setup.site setup.tables assembled)) (D.seen disk.new)) }
+        ensures logged { IfOk result (λ pair. pair.1
+            ≡ has_something_to_log (body_for self assembled)) }
+        ensures size { IfOk result (λ pair. pair.1 ≡ true →
+            length (epoch_bytes (body_for self assembled) 0) ≤ 2147483647) }
+        ensures too_large { (size : ℕ) → result ≡ Err (InjectFault.TooLarge size) →
+            (size ≡ length (epoch_bytes (body_for self assembled) 0)) × (2147483647 < size)
             × (has_something_to_log (body_for self assembled) ≡ true) }
-        ensures untouched { IsTooLarge result → (file : ℕ) → D.seen disk.new file ≡ D.seen disk.old file }
+        ensures untouched { IsTooLarge result → (file : ℕ) →
+            D.seen disk.new file ≡ D.seen disk.old file }
         ensures begun { IsNotEmpty result → ⊥ }
-        ensures nothing { has_something_to_log (body_for self assembled) ≡ false → (file : ℕ) → D.seen disk.new file ≡ D.seen disk.old file }
-        ensures stopped { OnErr result ((setup : LogSetup) (bodies : List EpochBody) → StandsFor self setup bodies (D.seen disk.old) →
-            LeavesImage setup bodies (body_of_assembled setup.site setup.tables assembled) (D.seen disk.new)) }
+        ensures nothing { has_something_to_log (body_for self assembled) ≡ false → (file : ℕ) →
+            D.seen disk.new file ≡ D.seen disk.old file }
+        ensures stopped { OnErr result ((setup : LogSetup) (bodies : List EpochBody) →
+            StandsFor self setup bodies (D.seen disk.old) →
+            LeavesImage setup bodies (body_of_assembled setup.site setup.tables assembled)
+            (D.seen disk.new)) }
         ensures cause { HasInjectCause (D.fault_count disk.old) (D.fault_count disk.new) result }
     {
         let body = body_of(self.alloc, self.site, self.tables.as_slice(), assembled)?;
@@ -107,8 +126,9 @@ impl Injector {
         Ok((injector, true))
     }
 
-    /// Opens the log again on a device that was stopped within a call, with the bodies that the device has. What is behind the last
-    /// one is cut off, and the file is rotated where it has come to the limit. At a fault it can be opened again, with the same bodies.
+    /// Recovers the log from a device that was stopped within a call, with the epochs that the
+    /// device has. What follows the last one is cut off, and the file is rotated if it has reached
+    /// the limit. After a fault the log can be recovered again, with the same epochs.
     pub fn recover<D: LogDisk>(
         alloc: Global,
         site: SiteId,
@@ -117,10 +137,17 @@ impl Injector {
         disk: &mut D,
     ) -> Result<Injector, DiskLogFault>
         requires setup { IsLogSetup (record { site = site; limit = limit; tables = tables }) }
-        requires image { (bodies : List EpochBody) × CanBeRecovered (record { site = site; limit = limit; tables = tables }) bodies (D.seen disk.old) }
-        ensures recovered { IfOk result (λ injector. (bodies : List EpochBody) → CanBeRecovered (record { site = site; limit = limit; tables = tables }) bodies (D.seen disk.old) →
-            StandsFor injector (record { site = site; limit = limit; tables = tables }) bodies (D.seen disk.new)) }
-        ensures kept { OnErr result ((bodies : List EpochBody) → CanBeRecovered (record { site = site; limit = limit; tables = tables }) bodies (D.seen disk.old) →
+        requires image { (bodies : List EpochBody)
+            × CanBeRecovered (record { site = site; limit = limit; tables = tables }) bodies
+            (D.seen disk.old) }
+        ensures recovered { IfOk result (λ injector. (bodies : List EpochBody) →
+            CanBeRecovered (record { site = site; limit = limit; tables = tables }) bodies
+            (D.seen disk.old) →
+            StandsFor injector (record { site = site; limit = limit; tables = tables }) bodies
+            (D.seen disk.new)) }
+        ensures kept { OnErr result ((bodies : List EpochBody) →
+            CanBeRecovered (record { site = site; limit = limit; tables = tables }) bodies
+            (D.seen disk.old) →
             IsLogImage site limit bodies (D.seen disk.new)) }
         ensures cause { HasDiskCause (D.fault_count disk.old) (D.fault_count disk.new) result }
     {
@@ -136,7 +163,7 @@ impl Injector {
         })
     }
 
-    /// The last epoch in the log, or epoch 0 where there is none. It takes no memory.
+    /// Returns the last epoch in the log, or epoch 0 if there is none. Allocates nothing.
     pub fn written(&self) -> Epoch
         ensures { result.0 ≡ written_of self.now }
     {
@@ -146,28 +173,31 @@ impl Injector {
         }
     }
 
-    /// The length, in bytes, from which its files are rotated. It takes no memory.
+    /// Returns the length at which its files are rotated, in bytes. Allocates nothing.
     pub fn limit(&self) -> u64
         ensures { result ≡ limit_of self.now }
     {
         self.limit
     }
 
-    /// The index of the log. It takes no memory.
+    /// Returns the index of the log. Allocates nothing.
     pub fn index(&self) -> &EpochIndex
-        ensures { (setup : LogSetup) (bodies : List EpochBody) (seen : ℕ → List ℕ) → StandsFor self.now setup bodies seen → result.now ≡ index_rows setup.site setup.limit bodies }
+        ensures { (setup : LogSetup) (bodies : List EpochBody) (seen : ℕ → List ℕ) →
+            StandsFor self.now setup bodies seen →
+            result.now ≡ index_rows setup.site setup.limit bodies }
     {
         &self.index
     }
 
-    /// The number of the last binlog file. It takes no memory.
+    /// Returns the number of the last binlog file. Allocates nothing.
     pub fn last_file(&self) -> u32
         ensures { result ≡ last_file_of self.now }
     {
         self.files.end().0
     }
 
-    // Logs a body: its bytes at the end of the last file, its row, and a rotation where the file has come to the limit.
+    // Logs a body: appends its bytes to the last file and its row to the index, and rotates the
+    // file if it has reached the limit.
     fn log<D: LogDisk>(&mut self, body: &EpochBody, disk: &mut D) -> Result<(), InjectFault>
         requires stands { Stands self.old (D.seen disk.old) }
         requires later { written_of self.old < body.now.epoch.0 }
@@ -175,13 +205,17 @@ impl Injector {
         requires few { length body.now.changes < 2 ^ 32 }
         requires few_tables { length body.now.tables ≤ 65536 }
         requires few_files { last_file_of self.old < 4294967294 }
-        ensures logged { OnOk result ((setup : LogSetup) (bodies : List EpochBody) → StandsFor self.old setup bodies (D.seen disk.old) →
+        ensures logged { OnOk result ((setup : LogSetup) (bodies : List EpochBody) →
+            StandsFor self.old setup bodies (D.seen disk.old) →
             StandsFor self.new setup (bodies ++ body.now ∷ []) (D.seen disk.new)) }
         ensures size { OnOk result (length (epoch_bytes body.now 0) ≤ 2147483647) }
-        ensures too_large { (size : ℕ) → result ≡ Err (InjectFault.TooLarge size) → (size ≡ length (epoch_bytes body.now 0)) × (2147483647 < size) }
-        ensures untouched { IsTooLarge result → (file : ℕ) → D.seen disk.new file ≡ D.seen disk.old file }
+        ensures too_large { (size : ℕ) → result ≡ Err (InjectFault.TooLarge size) →
+            (size ≡ length (epoch_bytes body.now 0)) × (2147483647 < size) }
+        ensures untouched { IsTooLarge result → (file : ℕ) →
+            D.seen disk.new file ≡ D.seen disk.old file }
         ensures begun { IsNotEmpty result → ⊥ }
-        ensures stopped { OnErr result ((setup : LogSetup) (bodies : List EpochBody) → StandsFor self.old setup bodies (D.seen disk.old) →
+        ensures stopped { OnErr result ((setup : LogSetup) (bodies : List EpochBody) →
+            StandsFor self.old setup bodies (D.seen disk.old) →
             LeavesImage setup bodies body.now (D.seen disk.new)) }
         ensures cause { HasInjectCause (D.fault_count disk.old) (D.fault_count disk.new) result }
     {
@@ -201,7 +235,8 @@ impl Injector {
     }
 }
 
-// The binlog up to the end of the last row's epoch, rotated where its file has come to the limit; begun anew where there is no row.
+// Returns the binlog up to the end of the last row's epoch, rotated if its file has reached the
+// limit. Begins the binlog anew if there is no row.
 fn open_files<D: LogDisk>(
     alloc: Global,
     site: SiteId,
@@ -210,10 +245,14 @@ fn open_files<D: LogDisk>(
     disk: &mut D,
 ) -> Result<BinlogFiles, DiskLogFault>
     requires limit { IsLimit limit }
-    requires there { (bodies : List EpochBody) × HoldsBinlogTo site limit last bodies (D.seen disk.old) }
-    ensures opened { IfOk result (λ files. (bodies : List EpochBody) → HoldsBinlogTo site limit last bodies (D.seen disk.old) →
+    requires there { (bodies : List EpochBody)
+        × HoldsBinlogTo site limit last bodies (D.seen disk.old) }
+    ensures opened { IfOk result (λ files. (bodies : List EpochBody) →
+        HoldsBinlogTo site limit last bodies (D.seen disk.old) →
         binlog.StandsFor files site (binlog_of site limit bodies) (D.seen disk.new)) }
-    ensures kept { OnErr result ((bodies : List EpochBody) → HoldsBinlogTo site limit last bodies (D.seen disk.old) → HoldsUpTo last (binlog_files site limit bodies) (D.seen disk.new)) }
+    ensures kept { OnErr result ((bodies : List EpochBody) →
+        HoldsBinlogTo site limit last bodies (D.seen disk.old) →
+        HoldsUpTo last (binlog_files site limit bodies) (D.seen disk.new)) }
     ensures index { D.seen disk.new 0 ≡ D.seen disk.old 0 }
     ensures cause { HasDiskCause (D.fault_count disk.old) (D.fault_count disk.new) result }
 {
@@ -225,13 +264,14 @@ fn open_files<D: LogDisk>(
     Ok(files)
 }
 
-// A binlog without an epoch, over files of which nothing counts.
+// Begins a binlog without an epoch, over files of which nothing counts.
 fn begin_anew<D: LogDisk>(
     alloc: Global,
     site: SiteId,
     disk: &mut D,
 ) -> Result<BinlogFiles, DiskLogFault>
-    ensures begun { IfOk result (λ files. binlog.StandsFor files site (new_binlog site) (D.seen disk.new)) }
+    ensures begun { IfOk result (λ files.
+        binlog.StandsFor files site (new_binlog site) (D.seen disk.new)) }
     ensures index { D.seen disk.new 0 ≡ D.seen disk.old 0 }
     ensures cause { HasDiskCause (D.fault_count disk.old) (D.fault_count disk.new) result }
 {

@@ -1,9 +1,10 @@
-//! The injector of a site: it takes assembled epochs in order and logs those that have something to log, each as one
-//! transaction of the binlog with a row of the index.
+//! The injector of a site. It takes assembled epochs in order, and logs those that have something
+//! to log: each is one transaction of the binlog, with a row of the index.
 //!
-//! An [`Injector`] stands for the bodies that are logged (`StandsFor`), over a device that holds exactly their log. After a fault
-//! it is gone, and what the device then reads as is a log that [`Injector::recover`] opens again, without the epoch in hand or
-//! with it. Below stand the encoder of epochs, the binlog's files and the index; the site stands above.
+//! An [`Injector`] represents the logged bodies (`StandsFor`), over a device that holds exactly
+//! their log. After a fault it is gone; [`Injector::recover`] then recovers the log from the
+//! device, with or without the epoch that was being logged. The encoder of epochs, the binlog files
+//! and the index stand below; the site stands above.
 #![tactic(auto)]
 
 mod body;
@@ -13,6 +14,3 @@ mod row;
 
 pub use fault::InjectFault;
 pub use injector::Injector;
-
-#[cfg(test)]
-mod tests;

@@ -3,7 +3,7 @@ ghost use Rattle.rb_log_defs.specs.Index.{index_row, is_insert, is_update, is_re
 
 use rb_base::{Change, EpochBody, IndexRow, Kind, SiteId};
 
-/// Where an epoch stands in the binlog: its file, and from which byte of it to which.
+/// An epoch's place in the binlog: its file, its first byte, and the end of its last one.
 #[derive(Clone, Copy, Debug)]
 pub(crate) struct Place {
     pub(crate) file: u32,
@@ -11,12 +11,12 @@ pub(crate) struct Place {
     pub(crate) next_position: u32,
 }
 
-/// The index row of a body that stands there.
+/// Returns the index row of a body at this place.
 pub(crate) fn row_at(site: SiteId, place: Place, body: &EpochBody) -> IndexRow
     requires few { length body.now.changes < 2 ^ 32 }
     ensures { result ≡ index_row site place.file place.position place.next_position body.now }
 {
-    let changes = body.changes.as_slice();
+    let counts = counts_of(body.changes.as_slice());
     IndexRow {
         epoch: body.epoch,
         orig_epoch: body.epoch,
@@ -24,47 +24,42 @@ pub(crate) fn row_at(site: SiteId, place: Place, body: &EpochBody) -> IndexRow
         next_position: u64::from(place.next_position),
         file: place.file,
         next_file: place.file,
-        inserts: inserts_in(changes),
-        updates: updates_in(changes),
-        deletes: deletes_in(changes),
+        inserts: counts.inserts,
+        updates: counts.updates,
+        deletes: counts.deletes,
         schemaops: 0,
         orig_server_id: site.server_id(),
         gci: body.epoch.gci(),
     }
 }
 
-// How many of these changes bring a row.
-fn inserts_in(changes: &[Change]) -> u32
-    requires few { length changes.now < 2 ^ 32 }
-    ensures { result ≡ count_by (λ change. is_insert change.kind) changes.now }
-{
-    let mut count = 0;
-    for change in changes {
-        count += u32::from(matches!(change.kind, Kind::Insert));
-    }
-    count
+/// How many changes of each kind an epoch has.
+#[derive(Clone, Copy, Debug)]
+struct Counts {
+    inserts: u32,
+    updates: u32,
+    deletes: u32,
 }
 
-// How many of them are of a row that is there.
-fn updates_in(changes: &[Change]) -> u32
+// Counts the changes of each kind.
+fn counts_of(changes: &[Change]) -> Counts
     requires few { length changes.now < 2 ^ 32 }
-    ensures { result ≡ count_by (λ change. is_update change.kind) changes.now }
+    ensures inserts { result.inserts
+        ≡ count_by (λ change. is_insert change.kind) changes.now }
+    ensures updates { result.updates
+        ≡ count_by (λ change. is_update change.kind) changes.now }
+    ensures deletes { result.deletes
+        ≡ count_by (λ change. is_remove change.kind) changes.now }
 {
-    let mut count = 0;
+    let mut counts = Counts {
+        inserts: 0,
+        updates: 0,
+        deletes: 0,
+    };
     for change in changes {
-        count += u32::from(matches!(change.kind, Kind::Update));
+        counts.inserts += u32::from(matches!(change.kind, Kind::Insert));
+        counts.updates += u32::from(matches!(change.kind, Kind::Update));
+        counts.deletes += u32::from(matches!(change.kind, Kind::Remove));
     }
-    count
-}
-
-// How many of them take a row away.
-fn deletes_in(changes: &[Change]) -> u32
-    requires few { length changes.now < 2 ^ 32 }
-    ensures { result ≡ count_by (λ change. is_remove change.kind) changes.now }
-{
-    let mut count = 0;
-    for change in changes {
-        count += u32::from(matches!(change.kind, Kind::Remove));
-    }
-    count
+    counts
 }

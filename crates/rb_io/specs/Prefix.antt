@@ -1,7 +1,7 @@
--- What a write that gave up has written.
+-- The effect of a write that stopped on an error.
 use Rattle.std.specs.Prelude.{ℕ, ◌≤◌, List, Option, length, take}
 use Rattle.std.specs.Io.KnownBytes.{Appends}
 
--- known bytes grew by some front of these
+-- if the sink's bytes are known, they grew by a prefix of these bytes
 abbrev pub GrowsByPrefix : (old new : Option (List ℕ)) → List ℕ → Type 0
 GrowsByPrefix old new bytes = (n : ℕ) × (n ≤ length bytes) × Appends old new (take n bytes)

@@ -1,13 +1,14 @@
-//! Where bytes come from and where they go: the traits [`Source`] and [`Sink`], their forms in memory and over
-//! std's readers and writers, and reads and writes of a whole.
+//! Sources and sinks of bytes: the traits [`Source`] and [`Sink`], their forms in memory and over
+//! std's readers and writers, and calls that read or write everything.
 //!
-//! The one contract: a call gives or takes exactly the bytes that it says, in order, and answers a failure only
-//! where its count of faults rose. Only `rb_base` stands below this crate; the programs stand above it.
+//! The one contract: a call reads or writes exactly the bytes that it reports, in order, and
+//! returns a failure only if its object's count of faults rose. Only `rb_base` stands below this
+//! crate; the programs stand above it.
 #![tactic(auto)]
 
-mod front;
 mod memory_sink;
 mod memory_source;
+mod prefix;
 mod sink;
 mod source;
 mod standard;
@@ -21,6 +22,3 @@ pub use source::Source;
 pub use standard::{StdSink, StdSource};
 pub use steady::{SteadySink, SteadySource};
 pub use whole::{ReadAllFault, read_all, write_all};
-
-#[cfg(test)]
-mod tests;

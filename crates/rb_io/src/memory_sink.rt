@@ -32,7 +32,8 @@ impl Model for MemorySink {
 }
 
 impl MemorySink {
-    /// A sink with no bytes. Its calls are numbered from 0, and those whose numbers are in `failing` fail.
+    /// Creates an empty sink. Its calls are numbered from 0, and the calls whose numbers are in
+    /// `failing` fail.
     pub fn new(alloc: Global, failing: Numbers) -> Self
         ensures { result ≡ record { held = []; call = 0; failing = failing; faults = 0 } }
     {
@@ -44,7 +45,7 @@ impl MemorySink {
         }
     }
 
-    /// The bytes that it took.
+    /// Returns the bytes that were written to the sink.
     pub fn bytes(&self) -> &[u8]
         ensures { result.now ≡ self.now.held }
     {
@@ -57,8 +58,8 @@ impl Sink for MemorySink {
 
     ghost fault_count = { λ s. s.faults };
 
-    /// Takes all the bytes. A call that ends in want of memory is one of the numbered calls, and changes nothing
-    /// else.
+    /// Writes all the bytes. A call that runs out of memory takes its number as any other call
+    /// does, and changes nothing else.
     fn write(&mut self, bytes: &[u8]) -> Result<usize, OutFault>
         ensures bound { WritesAtMost result bytes.now }
         ensures some { IfOk result (λ n. 0 < length bytes.now → 0 < n) }
@@ -68,7 +69,8 @@ impl Sink for MemorySink {
         ensures count { IfOk result (λ n. n ≡ length bytes.now) }
         ensures call { self.new.call ≡ min (self.old.call + 1) (2 ^ 64 - 1) }
         ensures failing { self.new.failing ≡ self.old.failing }
-        ensures faults { IsErrOf result OutFault.Failed → self.new.faults ≡ min (self.old.faults + 1) (2 ^ 64 - 1) }
+        ensures faults { IsErrOf result OutFault.Failed →
+            self.new.faults ≡ min (self.old.faults + 1) (2 ^ 64 - 1) }
         ensures no_fault { OnOk result (self.new.faults ≡ self.old.faults) }
     {
         let call = self.call;

@@ -4,7 +4,7 @@ ghost use Rattle.std.specs.Io.{ReadsAtMost};
 ghost use Rattle.std.specs.Io.KnownBytes.{ReadConsumes};
 ghost use Rattle.rb_base.specs.Faults.{HasCause};
 
-use crate::front::copy_front;
+use crate::prefix::copy_prefix;
 use crate::source::Source;
 use rb_base::{Bytes, Failed, Numbers};
 use std::marker::Model;
@@ -36,7 +36,8 @@ impl Model for MemorySource {
 }
 
 impl MemorySource {
-    /// A source of these bytes. Its calls are numbered from 0, and those whose numbers are in `failing` fail.
+    /// Creates a source of these bytes. Its calls are numbered from 0, and the calls whose numbers
+    /// are in `failing` fail.
     pub fn new(bytes: Bytes, failing: Numbers) -> Self
         ensures { result ≡ record { left = bytes; call = 0; failing = failing; faults = 0 } }
     {
@@ -55,14 +56,14 @@ impl Source for MemorySource {
 
     ghost fault_count = { λ s. s.faults };
 
-    /// Gives as many bytes as are left and fit.
+    /// Reads as many of the remaining bytes as `into` has room for.
     fn read(&mut self, into: &mut [u8]) -> Result<usize, Failed>
         ensures bound { ReadsAtMost result into.new }
         ensures bytes { ReadConsumes (Some self.old.left) (Some self.new.left) result into.new }
         ensures cause { HasCause self.old.faults self.new.faults result }
         ensures fails { IsErr result ↔ Contains self.old.failing self.old.call }
         ensures count { IfOk result (λ n. n ≡ min (length self.old.left) (length into.old)) }
-        ensures behind { IfOk result (λ n. drop n into.new ≡ drop n into.old) }
+        ensures following { IfOk result (λ n. drop n into.new ≡ drop n into.old) }
         ensures call { self.new.call ≡ min (self.old.call + 1) (2 ^ 64 - 1) }
         ensures failing { self.new.failing ≡ self.old.failing }
         ensures faults { OnErr result (self.new.faults ≡ min (self.old.faults + 1) (2 ^ 64 - 1)) }
@@ -74,7 +75,7 @@ impl Source for MemorySource {
             self.faults = self.faults.saturating_add(1);
             return Err(Failed);
         }
-        let count = copy_front(&self.bytes.as_slice()[self.position..], into);
+        let count = copy_prefix(&self.bytes.as_slice()[self.position..], into);
         self.position += count;
         Ok(count)
     }

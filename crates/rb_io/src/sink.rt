@@ -5,23 +5,26 @@ ghost use Rattle.rb_base.specs.Faults.{HasOutCause};
 
 use rb_base::OutFault;
 
-/// Where bytes go.
+/// A receiver of bytes.
 pub trait Sink {
-    /// The bytes that it took, where the sink tells them.
+    /// The bytes that were written to the sink, if the sink knows them.
     ghost held: { Self → Option (List ℕ) };
 
-    /// How often it has failed.
+    /// How often the sink has failed.
     ghost fault_count: { Self → ℕ };
 
-    /// Takes bytes from the front of `bytes` and answers how many they are: at least one of a non-empty slice. At
-    /// an `Err` it took none. At `Failed` the count of faults has risen, at `NoMemory` it stands.
+    /// Writes a prefix of `bytes` and returns its length, which is at least 1 if `bytes` is not
+    /// empty.
+    ///
+    /// On an error nothing was written. At `Failed` the count of faults has risen; at `NoMemory` it
+    /// is unchanged.
     fn write(&mut self, bytes: &[u8]) -> Result<usize, OutFault>
         ensures bound { WritesAtMost result bytes.now }
         ensures some { IfOk result (λ n. 0 < length bytes.now → 0 < n) }
         ensures bytes { WriteAppends (held self.old) (held self.new) result bytes.now }
         ensures cause { HasOutCause (fault_count self.old) (fault_count self.new) result };
 
-    /// How often it has failed. The count stops at the greatest number of 64 bits.
+    /// Returns how often the sink has failed. The count stops at the greatest number of 64 bits.
     fn faults(&self) -> u64
         ensures { result ≡ fault_count self.now };
 }

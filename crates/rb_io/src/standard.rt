@@ -5,7 +5,7 @@ use crate::source::Source;
 use rb_base::{Failed, OutFault};
 use std::io::{Read, Write};
 
-/// A source over a reader of std. It is trusted to be what std's contract of its reader says.
+/// A source over a reader of std. The reader is trusted to meet std's contract of reading.
 #[derive(Debug, Drop)]
 pub struct StdSource<R> {
     inner: R,
@@ -13,7 +13,7 @@ pub struct StdSource<R> {
 }
 
 impl<R: Read> StdSource<R> {
-    /// A source of what the reader gives.
+    /// Creates a source of the bytes that the reader returns.
     pub fn new(inner: R) -> Self
         ensures inner { result.inner ≡ inner }
         ensures faults { result.faults ≡ 0 }
@@ -27,7 +27,8 @@ impl<R: Read> Source for StdSource<R> {
 
     ghost fault_count = { λ s. s.faults };
 
-    /// One read of the reader. Each error of its, an interruption too, is `Failed`.
+    /// Calls the reader once. Any error of the reader, an interruption included, is returned as
+    /// `Failed`.
     fn read(&mut self, into: &mut [u8]) -> Result<usize, Failed> {
         match self.inner.read(into) {
             Ok(count) => Ok(count),
@@ -43,7 +44,7 @@ impl<R: Read> Source for StdSource<R> {
     }
 }
 
-/// A sink over a writer of std. It is trusted to be what std's contract of its writer says.
+/// A sink over a writer of std. The writer is trusted to meet std's contract of writing.
 #[derive(Debug, Drop)]
 pub struct StdSink<W> {
     inner: W,
@@ -51,7 +52,7 @@ pub struct StdSink<W> {
 }
 
 impl<W: Write> StdSink<W> {
-    /// A sink that hands all to the writer.
+    /// Creates a sink that passes all bytes to the writer.
     pub fn new(inner: W) -> Self
         ensures inner { result.inner ≡ inner }
         ensures faults { result.faults ≡ 0 }
@@ -65,7 +66,8 @@ impl<W: Write> Sink for StdSink<W> {
 
     ghost fault_count = { λ s. s.faults };
 
-    /// One write of the writer. Each error of its, and a write that took nothing of some bytes, is `Failed`.
+    /// Calls the writer once. Returns `Failed` on any error of the writer, and also if the writer
+    /// accepted none of a non-empty slice.
     fn write(&mut self, bytes: &[u8]) -> Result<usize, OutFault> {
         match self.inner.write(bytes) {
             Ok(count) if count > 0 || bytes.is_empty() => Ok(count),

@@ -3,7 +3,7 @@ ghost use Rattle.std.specs.Io.{ReadsAtMost, WritesAtMost};
 ghost use Rattle.std.specs.Io.KnownBytes.{ReadConsumes, WriteAppends};
 ghost use Rattle.rb_base.specs.Faults.{HasCause, HasOutCause};
 
-use crate::front::copy_front;
+use crate::prefix::copy_prefix;
 use crate::sink::Sink;
 use crate::source::Source;
 use rb_base::{Bytes, Failed, OutFault};
@@ -28,7 +28,7 @@ impl Model for SteadySource {
 }
 
 impl SteadySource {
-    /// A source of these bytes.
+    /// Creates a source of these bytes.
     pub fn new(bytes: Bytes) -> Self
         ensures { result ≡ bytes }
     {
@@ -41,16 +41,16 @@ impl Source for SteadySource {
 
     ghost fault_count = { λ _. 0 };
 
-    /// Gives as many bytes as are left and fit.
+    /// Reads as many of the remaining bytes as `into` has room for.
     fn read(&mut self, into: &mut [u8]) -> Result<usize, Failed>
         ensures bound { ReadsAtMost result into.new }
         ensures bytes { ReadConsumes (Some self.old) (Some self.new) result into.new }
         ensures cause { HasCause 0 0 result }
         ensures never_fails { IsOk result }
         ensures count { IfOk result (λ n. n ≡ min (length self.old) (length into.old)) }
-        ensures behind { IfOk result (λ n. drop n into.new ≡ drop n into.old) }
+        ensures following { IfOk result (λ n. drop n into.new ≡ drop n into.old) }
     {
-        let count = copy_front(&self.bytes.as_slice()[self.position..], into);
+        let count = copy_prefix(&self.bytes.as_slice()[self.position..], into);
         self.position += count;
         Ok(count)
     }
@@ -75,7 +75,7 @@ impl Model for SteadySink {
 }
 
 impl SteadySink {
-    /// A sink with no bytes.
+    /// Creates an empty sink.
     pub fn new(alloc: Global) -> Self
         ensures { result ≡ [] }
     {
@@ -84,7 +84,7 @@ impl SteadySink {
         }
     }
 
-    /// The bytes that it took.
+    /// Returns the bytes that were written to the sink.
     pub fn bytes(&self) -> &[u8]
         ensures { result.now ≡ self.now }
     {
@@ -97,7 +97,7 @@ impl Sink for SteadySink {
 
     ghost fault_count = { λ _. 0 };
 
-    /// Takes all the bytes, or none in want of memory.
+    /// Writes all the bytes. If memory allocation fails, nothing is written.
     fn write(&mut self, bytes: &[u8]) -> Result<usize, OutFault>
         ensures bound { WritesAtMost result bytes.now }
         ensures some { IfOk result (λ n. 0 < length bytes.now → 0 < n) }

@@ -9,10 +9,10 @@ use crate::source::Source;
 use rb_base::{Bytes, Failed, OutFault};
 use std::alloc::{AllocError, Global};
 
-/// Why a source was not read to its end.
+/// The error of reading a source to its end.
 #[derive(Clone, Copy, Debug, PartialEq, Eq)]
 pub enum ReadAllFault {
-    /// More bytes were left than were asked for at most.
+    /// The source has more bytes than the limit.
     TooLong,
     /// The source failed, and its count of faults rose.
     Failed,
@@ -37,21 +37,24 @@ impl From<AllocError> for ReadAllFault {
 
 const PIECE: usize = 65536;
 
-/// The bytes of a source up to its end, of which there may be `most`. At an `Err` some of them are read, and lost.
+/// Reads a source to its end and returns its bytes. The limit is `most` bytes. On an error, the
+/// bytes that were read until then are lost.
 pub fn read_all<I: Source>(alloc: Global, source: &mut I, most: u64) -> Result<Bytes, ReadAllFault>
     ensures ok { IfOk result (λ bytes.
         Consumes (I.left source.old) (I.left source.new) bytes
         × IsAtEnd (I.left source.new)
         × (length bytes ≤ most)) }
-    ensures too_long { IsErrOf result ReadAllFault.TooLong → IfSome (I.left source.old) (λ bytes. most < length bytes) }
-    ensures failed { IsErrOf result ReadAllFault.Failed → Rose (I.fault_count source.old) (I.fault_count source.new) }
+    ensures too_long { IsErrOf result ReadAllFault.TooLong →
+        IfSome (I.left source.old) (λ bytes. most < length bytes) }
+    ensures failed { IsErrOf result ReadAllFault.Failed →
+        Rose (I.fault_count source.old) (I.fault_count source.new) }
     ensures later { I.fault_count source.old ≤ I.fault_count source.new }
 {
     let mut piece = vec![in alloc; 0u8; PIECE]?;
     read_by(alloc, &mut piece, source, most)
 }
 
-// The same, by reads into this piece.
+// Reads the source to its end, in reads into `piece`.
 #[tactic(auto, using(crate::proofs::Known::consumes_more, crate::proofs::Known::had_more))]
 fn read_by<I: Source>(
     alloc: Global,
@@ -64,8 +67,10 @@ fn read_by<I: Source>(
         Consumes (I.left source.old) (I.left source.new) bytes
         × IsAtEnd (I.left source.new)
         × (length bytes ≤ most)) }
-    ensures too_long { IsErrOf result ReadAllFault.TooLong → IfSome (I.left source.old) (λ bytes. most < length bytes) }
-    ensures failed { IsErrOf result ReadAllFault.Failed → Rose (I.fault_count source.old) (I.fault_count source.new) }
+    ensures too_long { IsErrOf result ReadAllFault.TooLong →
+        IfSome (I.left source.old) (λ bytes. most < length bytes) }
+    ensures failed { IsErrOf result ReadAllFault.Failed →
+        Rose (I.fault_count source.old) (I.fault_count source.new) }
     ensures later { I.fault_count source.old ≤ I.fault_count source.new }
 {
     let mut bytes = Vec::new(alloc);
@@ -82,11 +87,12 @@ fn read_by<I: Source>(
     Err(ReadAllFault::TooLong)
 }
 
-/// Writes all the bytes. At an `Err` a front of them may be written.
+/// Writes all the bytes. On an error, a prefix of them may be written.
 pub fn write_all<O: Sink>(out: &mut O, bytes: &[u8]) -> Result<(), OutFault>
     ensures ok { OnOk result (Appends (O.held out.old) (O.held out.new) bytes.now) }
     ensures prefix { OnErr result (GrowsByPrefix (O.held out.old) (O.held out.new) bytes.now) }
-    ensures failed { IsErrOf result OutFault.Failed → Rose (O.fault_count out.old) (O.fault_count out.new) }
+    ensures failed { IsErrOf result OutFault.Failed →
+        Rose (O.fault_count out.old) (O.fault_count out.new) }
     ensures later { O.fault_count out.old ≤ O.fault_count out.new }
 {
     let mut at = 0;

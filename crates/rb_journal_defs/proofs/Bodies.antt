@@ -1,4 +1,4 @@
--- How the bodies of a journal grow with its entries.
+-- The growth of a journal's bodies with its entries.
 use Rattle.std.proofs.Common.{◌≡◌, ℕ, ◌+◌, ◌%◌, ◌<◌, Bool, true, false, cond, List, [], ◌∷◌, ◌++◌, filter, map, refl, sym, ap, ◌∙◌, arith}
 use Rattle.std.specs.Prelude.{◌==◌, Option, if◌then◌else◌}
 use Rattle.std.specs.List.{AllByRecursion, flat_map}
@@ -15,7 +15,7 @@ use Rattle.rb_base.specs.declared.body.EpochBody.{EpochBody}
 use Rattle.rb_journal_defs.specs.Journal.{Entry, Client, Applied, Closed, Journal, epoch_of, closed_epochs}
 use Rattle.rb_journal_defs.specs.Body.{Shape, changes_in, in_bucket, numbers_below, is_logged, last_source, reflected_in, body_with, body_of, has_something_to_log, completed_epochs, completed_bodies}
 
--- a journal's entry adds nothing to other epochs
+-- an entry adds no change to another epoch
 changes_in_other : (site : SiteId) (epoch : ℕ) (entry : Entry) (older : Journal) → (epoch_of entry ≡ epoch → ⊥) → changes_in site epoch (entry ∷ older) ≡ changes_in site epoch older
 changes_in_other site epoch entry older differs =
     rw (ne_eqb (epoch_of entry) epoch differs) (append-nil (changes_in site epoch older))
@@ -29,7 +29,7 @@ reflected_other : (site : SiteId) (epoch : ℕ) (entry : Entry) (older : Journal
 reflected_other A epoch entry older differs = refl
 reflected_other B epoch entry older differs = last_source_other epoch entry older differs
 
--- the body that these changes and this reflected epoch make
+-- the body of these changes and this reflected epoch
 body_made : Shape → ℕ → Option Epoch → List Change → EpochBody
 body_made shape epoch reflected changes =
     body_with shape epoch reflected (filter (is_logged shape.site) (flat_map (λ bucket. in_bucket shape.buckets bucket changes) (numbers_below shape.buckets)))
@@ -45,7 +45,7 @@ body_same shape epoch new old reflected changes =
     ∙ ap (λ (cs : List Change). body_made shape epoch (reflected_in shape.site epoch old) cs) changes
     ∙ sym (body_is_made shape epoch old)
 
--- the body of another epoch stays
+-- an entry of another epoch leaves a body unchanged
 pub body_of_other : (shape : Shape) (epoch : ℕ) (entry : Entry) (older : Journal) → (epoch_of entry ≡ epoch → ⊥) → body_of shape epoch (entry ∷ older) ≡ body_of shape epoch older
 body_of_other shape epoch entry older differs =
     body_same shape epoch (entry ∷ older) older (reflected_other shape.site epoch entry older differs) (changes_in_other shape.site epoch entry older differs)
@@ -63,11 +63,11 @@ pub body_of_closed : (shape : Shape) (epoch closed : ℕ) (older : Journal) → 
 body_of_closed shape epoch closed older =
     body_same shape epoch (Closed closed ∷ older) older (reflected_closed shape.site epoch closed older) (changes_in_closed shape.site epoch closed older)
 
--- the bodies of these epochs that have something to log
+-- those of these epochs' bodies that have something to log
 logged_of : Shape → Journal → List ℕ → List EpochBody
 logged_of shape journal epochs = map (λ epoch. body_of shape epoch journal) (filter (λ epoch. has_something_to_log (body_of shape epoch journal)) epochs)
 
--- one body, where it has something to log
+-- this body, if it has something to log
 abbrev pub if_logged : EpochBody → List EpochBody
 if_logged body = if has_something_to_log body then body ∷ [] else []
 
@@ -107,14 +107,14 @@ closed_same : (shape : Shape) (closed : ℕ) (older : Journal) (epochs : List �
 closed_same shape closed older [] = tt
 closed_same shape closed older (epoch ∷ epochs) = (body_of_closed shape epoch closed older, closed_same shape closed older epochs)
 
--- a transaction in an open epoch leaves the completed bodies
+-- a transaction in the open epoch leaves the completed bodies unchanged
 pub completed_client : (shape : Shape) (opened transid : ℕ) (changes : List Change) (older : Journal) → AllByRecursion (λ epoch. epoch < opened) (closed_epochs older) → completed_bodies shape (Client opened transid changes ∷ older) ≡ completed_bodies shape older
 completed_client shape opened transid changes older below =
     completed_is shape (Client opened transid changes ∷ older)
     ∙ logged_same shape (Client opened transid changes ∷ older) older (closed_epochs older) (others_below shape (Client opened transid changes) older (closed_epochs older) below)
     ∙ sym (completed_is shape older)
 
--- a close adds the body of its epoch, where that has something to log
+-- a close adds the body of its epoch, if that has something to log
 pub completed_closed : (shape : Shape) (closed : ℕ) (older : Journal) → completed_bodies shape (Closed closed ∷ older) ≡ completed_bodies shape older ++ if_logged (body_of shape closed older)
 unfolding logged_of
 completed_closed shape closed older =
@@ -124,12 +124,12 @@ completed_closed shape closed older =
     ∙ ap (λ (bs : List EpochBody). logged_of shape older (closed_epochs older) ++ bs) (logged_of_cons shape older closed [] ∙ append-nil (if_logged (body_of shape closed older)))
     ∙ ap (λ (bs : List EpochBody). bs ++ if_logged (body_of shape closed older)) (sym (completed_is shape older))
 
--- a filter that all pass
+-- a filter keeps a list whose items all pass its test
 filter_all : {X : Type 0} (test : X → Bool) (xs : List X) → AllByRecursion (λ x. test x ≡ true) xs → filter test xs ≡ xs
 filter_all test [] pass = refl
 filter_all test (x ∷ xs) pass = rw pass.0 (ap (λ ys. x ∷ ys) (filter_all test xs pass.1))
 
--- the body's changes where there is one bucket and every change is logged
+-- every change is logged
 abbrev pub AllLogged : SiteId → List Change → Type 0
 AllLogged site changes = AllByRecursion (λ change. is_logged site change ≡ true) changes
 

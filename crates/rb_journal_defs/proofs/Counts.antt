@@ -1,4 +1,4 @@
--- How many changes bodies and journals have.
+-- The numbers of changes in bodies and journals.
 use Rattle.std.proofs.Common.{◌≡◌, ◌≢◌, ℕ, zero, suc, ◌+◌, ◌<◌, ◌≤◌, Bool, true, false, cond, List, [], ◌∷◌, length, filter, refl, sym, ap, subst, ◌∙◌, inl, inr, arith, eq-eqb, ne_eqb, length-append}
 use Rattle.std.specs.Prelude.{◌⊎◌, ◌==◌, sum_by, if◌then◌else◌}
 use Rattle.std.specs.List.{AllByRecursion, flat_map}
@@ -10,7 +10,7 @@ use Rattle.rb_journal_defs.specs.Journal.{Entry, Journal, epoch_of, changes_of}
 use Rattle.rb_journal_defs.specs.Body.{Shape, changes_in, in_bucket, part_of, numbers_below, is_logged, body_changes}
 use Rattle.rb_journal_defs.proofs.Order.{Rises, eq_or_ne}
 
--- all changes of a journal
+-- the number of all changes of a journal
 abbrev pub changes_made : SiteId → Journal → ℕ
 changes_made site j = sum_by (λ entry. length (changes_of site entry)) j
 
@@ -22,7 +22,7 @@ filter_length test (x ∷ xs) = go (test x) (filter_length test xs)
     go true h = omega arith
     go false h = omega arith
 
--- a number is counted once below another
+-- `n` if `b` is `k`, and otherwise 0
 abbrev pub one_at : (k n : ℕ) → ℕ → ℕ
 one_at k n b = cond (k == b) n 0
 
@@ -41,7 +41,7 @@ once_at k n (suc m) = go (eq_or_ne k m) (once_at k n m)
     go (inl q) h = let z : sum_by (one_at k n) (numbers_below m) ≡ 0 = none_at k n m (omega arith) in let o : sum_by (one_at k n) (m ∷ []) ≡ n = rw (eq-eqb k m q) (omega arith) in omega (arith, parts)
     go (inr d) h = let o : sum_by (one_at k n) (m ∷ []) ≡ 0 = rw (ne_eqb k m d) refl in omega (arith, parts)
 
--- sums of sums
+-- the sum of sums is the sum of both
 sum_plus : {X : Type 0} → (f g : X → ℕ) (xs : List X) → sum_by (λ x. f x + g x) xs ≡ sum_by f xs + sum_by g xs
 sum_plus f g [] = refl
 sum_plus f g (x ∷ xs) = omega (arith, sum_by-cons (λ x. f x + g x) x xs, sum_by-cons f x xs, sum_by-cons g x xs, sum_plus f g xs)
@@ -61,7 +61,7 @@ bucket_more buckets b c cs = go (bucket_number c.table c.key buckets == b)
     go true = omega arith
     go false = omega arith
 
--- each change is in one bucket at most
+-- each change is in at most one bucket
 buckets_length : (buckets n : ℕ) (cs : List Change) → sum_by (λ b. length (in_bucket buckets b cs)) (numbers_below n) ≤ length cs
 buckets_length buckets n [] = let z : sum_by (λ (b : ℕ). 0) (numbers_below n) ≡ 0 = sum_zero (numbers_below n) in omega arith
 buckets_length buckets n (c ∷ cs) =
@@ -76,7 +76,7 @@ joined_length : {X : Type 0} → (f : ℕ → List X) (xs : List ℕ) → length
 joined_length f [] = refl
 joined_length f (x ∷ xs) = omega (arith, length-append (f x) (flat_map f xs), sum_by-cons (λ x. length (f x)) x xs, joined_length f xs)
 
--- a body has no more changes than its epoch
+-- a body has at most as many changes as its epoch
 pub body_length : (shape : Shape) (e : ℕ) (j : Journal) → length (body_changes shape e j) ≤ length (changes_in shape.site e j)
 body_length shape e j =
     let parts = flat_map (λ bucket. part_of shape e bucket j) (numbers_below shape.buckets) in
@@ -85,7 +85,7 @@ body_length shape e j =
     let b = buckets_length shape.buckets shape.buckets (changes_in shape.site e j) in
     omega arith
 
--- rising numbers count one number once
+-- rising numbers above `k` do not contain `k`
 rising_none : (k n : ℕ) (xs : List ℕ) → AllByRecursion (λ y. k < y) xs → sum_by (one_at k n) xs ≡ 0
 rising_none k n [] all = refl
 rising_none k n (x ∷ xs) all = let l : k < x = all.0 in omega (arith, sum_by-cons (one_at k n) x xs, (let z : one_at k n x ≡ 0 = rw (ne_eqb k x (omega arith)) refl in z), rising_none k n xs all.1)
@@ -108,7 +108,7 @@ in_epoch site e x j = length-append (changes_in site e j) (if epoch_of x == e th
     go true = refl
     go false = refl
 
--- the changes of rising epochs are no more than all
+-- the changes of rising epochs are at most all changes of the journal
 pub epochs_length : (site : SiteId) (top : ℕ) (es : List ℕ) (j : Journal) → Rises top es → sum_by (λ e. length (changes_in site e j)) es ≤ changes_made site j
 epochs_length site top es [] rises = let z : sum_by (λ (e : ℕ). 0) es ≡ 0 = sum_zero es in omega arith
 epochs_length site top es (x ∷ j) rises =
@@ -119,7 +119,7 @@ epochs_length site top es (x ∷ j) rises =
     let rest = epochs_length site top es j rises in
     omega (arith, sum_by-cons (λ (entry : Entry). length (changes_of site entry)) x j)
 
--- one epoch's changes are no more than all
+-- the changes of one epoch are at most all changes of the journal
 pub epoch_length : (site : SiteId) (e : ℕ) (j : Journal) → length (changes_in site e j) ≤ changes_made site j
 epoch_length site e [] = omega arith
 epoch_length site e (x ∷ j) =

@@ -24,13 +24,13 @@ changes_here site e x j h = rw (eq-eqb (epoch_of x) e h) refl
 pub changes_elsewhere : (site : SiteId) (e : ℕ) (x : Entry) (j : Journal) → epoch_of x ≢ e → changes_in site e (x ∷ j) ≡ changes_in site e j
 changes_elsewhere site e x j h = rw (ne_eqb (epoch_of x) e h) (append-nil (changes_in site e j))
 
--- an entry stands at or below the open epoch, and those before it are in order
+-- an entry is at or below the open epoch, and the entries before it are in order
 pub order_step : (o : ℕ) (x : Entry) (j : Journal) → InOrder o (x ∷ j) → (epoch_of x ≤ o) × InOrder (epoch_of x) j
 order_step o (Client e t cs) j h = (omega (arith, h.0), rw h.0 h.1)
 order_step o (Applied e s t acc refs) j h = (omega (arith, h.0), rw h.0 h.1)
 order_step o (Closed e) j h = (omega (arith, h.0), h.1)
 
--- no change stands above the open epoch
+-- no change is above the open epoch
 pub changes_above : (site : SiteId) (o e : ℕ) (j : Journal) → InOrder o j → o < e → changes_in site e j ≡ []
 changes_above site o e [] h l = refl
 changes_above site o e (x ∷ j) h l =
@@ -41,7 +41,7 @@ pub opened_above : (o : ℕ) (j : Journal) → InOrder o j → 0 < o
 opened_above o [] h = h
 opened_above o (x ∷ j) h = let s = order_step o x j h in let r : 0 < epoch_of x = opened_above (epoch_of x) j s.1 in omega (arith, s.0)
 
--- numbers that rise, all of them above 0 and below this one
+-- numbers that rise, all of them above 0 and below `top`
 abbrev pub Rises : ℕ → List ℕ → Type 0
 Rises top [] = Unit {0}
 Rises top (x ∷ xs) = (0 < x) × (x < top) × AllByRecursion (λ y. x < y) xs × Rises top xs
@@ -62,7 +62,7 @@ closed_rise o (Client e t cs ∷ j) h = closed_rise o j h.1
 closed_rise o (Applied e s t acc refs ∷ j) h = closed_rise o j h.1
 closed_rise o (Closed e ∷ j) h = rises_end e o (closed_epochs j) (closed_rise e j h.1) (opened_above e j h.1) h.0
 
--- a number stands in a list
+-- a number is in a list
 abbrev pub Among : ℕ → List ℕ → Type 0
 Among e [] = ⊥
 Among e (x ∷ xs) = (x ≡ e) ⊎ Among e xs
@@ -76,7 +76,7 @@ among_end : (e : ℕ) (xs : List ℕ) → Among e (xs ++ e ∷ [])
 among_end e [] = inl refl
 among_end e (x ∷ xs) = inr (among_end e xs)
 
--- what is closed is among the closed epochs
+-- a closed epoch is among the closed epochs
 pub closed_among : (e : ℕ) (j : Journal) → IsClosed e j → Among e (closed_epochs j)
 closed_among e [] c = absurd c
 closed_among e (Client f t cs ∷ j) c = closed_among e j c
@@ -98,7 +98,7 @@ closed_positive o e (Applied f s t acc refs ∷ j) h c = closed_positive o e j h
 closed_positive o e (Closed f ∷ j) h (inl c) = let p : 0 < f = opened_above f j h.1 in omega (arith, c)
 closed_positive o e (Closed f ∷ j) h (inr c) = closed_positive f e j h.1 c
 
--- the last number below e, or p
+-- the last number below `e`, or `p` if there is none
 abbrev pub last_below : (p e : ℕ) → List ℕ → ℕ
 last_below p e xs = unwrap_or (last_or (Some p) (filter (λ x. nat_lt x e) xs)) p
 
@@ -106,15 +106,15 @@ all_above_more : (p x : ℕ) (xs : List ℕ) → p < x → AllByRecursion (λ y.
 all_above_more p x [] l all = tt
 all_above_more p x (y ∷ ys) l all = let m : x < y = all.0 in (omega arith, all_above_more p x ys l all.1)
 
--- a list of numbers above e has none below it
+-- if all numbers are above `e`, none is below it
 none_below : (e : ℕ) (xs : List ℕ) → AllByRecursion (λ y. e < y) xs → filter (λ x. nat_lt x e) xs ≡ []
 none_below e [] all = refl
 none_below e (x ∷ xs) all = rw (le-ltb x e (let l : e < x = all.0 in omega arith)) (none_below e xs all.1)
 
--- a list of numbers above p has all of them above it
-pub all_behind : (p : ℕ) (xs : List ℕ) → AllByRecursion (λ y. p < y) xs → filter (λ x. nat_lt p x) xs ≡ xs
-all_behind p [] all = refl
-all_behind p (x ∷ xs) all = rw (lt-ltb p x all.0) (ap (λ (ys : List ℕ). x ∷ ys) (all_behind p xs all.1))
+-- if all numbers are above `p`, the filter keeps all of them
+pub all_after : (p : ℕ) (xs : List ℕ) → AllByRecursion (λ y. p < y) xs → filter (λ x. nat_lt p x) xs ≡ xs
+all_after p [] all = refl
+all_after p (x ∷ xs) all = rw (lt-ltb p x all.0) (ap (λ (ys : List ℕ). x ∷ ys) (all_after p xs all.1))
 
 last_is_some : (p : ℕ) (xs : List ℕ) (q : ℕ) → unwrap_or (last_or (Some p) xs) q ≡ unwrap_or (last_or (Some p) xs) p
 last_is_some p [] q = refl
@@ -129,7 +129,7 @@ last_below_skip p e x xs l = rw (le-ltb x e l) refl
 last_below_none : (p e : ℕ) (xs : List ℕ) → AllByRecursion (λ y. e < y) xs → last_below p e xs ≡ p
 last_below_none p e xs all = rw (none_below e xs all) refl
 
--- the last number below one that stands behind p is at or above p
+-- if all numbers are above `p`, the last one below `e`, or `p`, is at or above `p`
 last_below_least : (p e : ℕ) (xs : List ℕ) (top : ℕ) → Rises top xs → AllByRecursion (λ y. p < y) xs → p ≤ last_below p e xs
 last_below_least p e [] top rises all = omega arith
 last_below_least p e (x ∷ xs) top rises all = go (last_below_least x e xs top rises.3 rises.2) (lt_or_le x e)
@@ -150,7 +150,7 @@ above_all x e (y ∷ ys) all (inr a) = above_all x e ys all.1 a
 last_below_self : (p x : ℕ) (xs : List ℕ) → AllByRecursion (λ y. x < y) xs → last_below p x (x ∷ xs) ≡ p
 last_below_self p x xs all = last_below_skip p x x xs (omega arith) ∙ last_below_none p x xs all
 
--- a number among rising ones is the first above the last one below it
+-- a number in a rising list is the first one above the last one below it
 pub first_above : (p e last : ℕ) (xs : List ℕ) (top : ℕ) → Rises top xs → AllByRecursion (λ y. p < y) xs → Among e xs → last_below p e xs ≡ last → first_of (filter (λ x. nat_lt last x) xs) ≡ Some e
 first_above p e last [] top rises all a same = absurd a
 first_above p e last (x ∷ xs) top rises all (inl q) same =
@@ -165,7 +165,7 @@ first_above p e last (x ∷ xs) top rises all (inr a) same =
     let le : x ≤ last = omega arith in
     rw (le-ltb last x le) (first_above x e last xs top rises.3 rises.2 a more)
 
--- the first of those above a number stands among all
+-- the first number above another is in the list
 first_among : (last e : ℕ) (xs : List ℕ) → first_of (filter (λ x. nat_lt last x) xs) ≡ Some e → Among e xs
 first_among last e [] first = absurd (let g : None ≡ Some e = first in cc)
 first_among last e (x ∷ xs) first = go (nat_lt last x) first (first_among last e xs)
@@ -174,7 +174,7 @@ first_among last e (x ∷ xs) first = go (nat_lt last x) first (first_among last
     go true h later = inl (let g : Some x ≡ Some e = h in cc)
     go false h later = inr (later h)
 
--- the first of those above a number is above it
+-- the first number above another is above it
 pub first_is_above : (last e : ℕ) (xs rest : List ℕ) → filter (λ x. nat_lt last x) xs ≡ e ∷ rest → last < e
 first_is_above last e [] rest same = absurd (let g : [] ≡ e ∷ rest = same in cc)
 first_is_above last e (x ∷ xs) rest same = go (λ later. first_is_above last e xs rest later) (lt_or_le last x)
@@ -185,7 +185,8 @@ first_is_above last e (x ∷ xs) rest same = go (λ later. first_is_above last e
         let xe : x ≡ e = cc in omega arith
     go more (inr l) = more (subst (λ (b : Bool). cond b (x ∷ filter (λ y. nat_lt last y) xs) (filter (λ y. nat_lt last y) xs) ≡ e ∷ rest) (le-ltb last x l) same)
 
--- the last number below the first one above a number that is p or stands among them is that number
+-- if `last` is `p` or is in the rising list, and `e` is the first number above `last`, then `last`
+-- is the last number below `e`
 pub below_first : (p e last : ℕ) (xs : List ℕ) (top : ℕ) → Rises top xs → AllByRecursion (λ y. p < y) xs → (last ≡ p) ⊎ Among last xs → first_of (filter (λ x. nat_lt last x) xs) ≡ Some e → last_below p e xs ≡ last
 below_first p e last [] top rises all a first = absurd (let g : None ≡ Some e = first in cc)
 below_first p e last (x ∷ xs) top rises all (inl q) first =
@@ -208,19 +209,19 @@ below_first p e last (x ∷ xs) top rises all (inr (inr a)) first =
     let l : x < e = above_all x e xs rises.2 inside in
     last_below_cons p e x xs l ∙ below_first x e last xs top rises.3 rises.2 (inr a) later
 
--- what stands behind the first number above one is what stands above that first number
-pub behind_first : (last e : ℕ) (xs rest : List ℕ) (top : ℕ) → Rises top xs → filter (λ x. nat_lt last x) xs ≡ e ∷ rest → filter (λ x. nat_lt e x) xs ≡ rest
-behind_first last e [] rest top rises same = absurd (let g : [] ≡ e ∷ rest = same in cc)
-behind_first last e (x ∷ xs) rest top rises same = go (λ later. behind_first last e xs rest top rises.3 later) (lt_or_le last x)
+-- the numbers after the first one above `last` are those above that first number
+pub after_first : (last e : ℕ) (xs rest : List ℕ) (top : ℕ) → Rises top xs → filter (λ x. nat_lt last x) xs ≡ e ∷ rest → filter (λ x. nat_lt e x) xs ≡ rest
+after_first last e [] rest top rises same = absurd (let g : [] ≡ e ∷ rest = same in cc)
+after_first last e (x ∷ xs) rest top rises same = go (λ later. after_first last e xs rest top rises.3 later) (lt_or_le last x)
   where
     go : (filter (λ y. nat_lt last y) xs ≡ e ∷ rest → filter (λ y. nat_lt e y) xs ≡ rest) → (last < x) ⊎ (x ≤ last) → filter (λ y. nat_lt e y) (x ∷ xs) ≡ rest
     go more (inl l) =
         let here : x ∷ filter (λ y. nat_lt last y) xs ≡ e ∷ rest = subst (λ (b : Bool). cond b (x ∷ filter (λ y. nat_lt last y) xs) (filter (λ y. nat_lt last y) xs) ≡ e ∷ rest) (lt-ltb last x l) same in
         let xe : x ≡ e = cc in
         let tail : filter (λ y. nat_lt last y) xs ≡ rest = cc in
-        let all : filter (λ y. nat_lt last y) xs ≡ xs = all_behind last xs (all_above_more last x xs l rises.2) in
+        let all : filter (λ y. nat_lt last y) xs ≡ xs = all_after last xs (all_above_more last x xs l rises.2) in
         let drops : filter (λ y. nat_lt x y) (x ∷ xs) ≡ filter (λ y. nat_lt x y) xs = rw (le-ltb x x (omega arith)) refl in
-        subst (λ (n : ℕ). filter (λ y. nat_lt n y) (x ∷ xs) ≡ rest) xe (drops ∙ all_behind x xs rises.2 ∙ sym all ∙ tail)
+        subst (λ (n : ℕ). filter (λ y. nat_lt n y) (x ∷ xs) ≡ rest) xe (drops ∙ all_after x xs rises.2 ∙ sym all ∙ tail)
     go more (inr l) =
         let later : filter (λ y. nat_lt last y) xs ≡ e ∷ rest = subst (λ (b : Bool). cond b (x ∷ filter (λ y. nat_lt last y) xs) (filter (λ y. nat_lt last y) xs) ≡ e ∷ rest) (le-ltb last x l) same in
         let above : last < e = first_is_above last e xs rest later in
@@ -236,7 +237,7 @@ among_closed_end e (x ∷ xs) y (inr a) = go (among_closed_end e xs y a)
     go (inl b) = inl (inr b)
     go (inr q) = inr q
 
--- what is among the closed epochs is closed
+-- an epoch among the closed epochs is closed
 pub among_closed : (e : ℕ) (j : Journal) → Among e (closed_epochs j) → IsClosed e j
 among_closed e [] a = absurd a
 among_closed e (Client f t cs ∷ j) a = among_closed e j a
@@ -258,18 +259,19 @@ all_positive : (top : ℕ) (xs : List ℕ) → Rises top xs → AllByRecursion (
 all_positive top [] rises = tt
 all_positive top (x ∷ xs) rises = (rises.0, all_positive top xs rises.3)
 
--- the closed epochs behind this one
-abbrev pub behind : (last : ℕ) → Journal → List ℕ
-behind last j = filter (λ epoch. nat_lt last epoch) (closed_epochs j)
+-- the closed epochs above this one
+abbrev pub following : (last : ℕ) → Journal → List ℕ
+following last j = filter (λ epoch. nat_lt last epoch) (closed_epochs j)
 
--- a closed epoch is the first behind the one closed before it
-pub first_behind : (o e last : ℕ) (j : Journal) → InOrder o j → IsClosed e j → previous_closed e j ≡ last → first_of (behind last j) ≡ Some e
-first_behind o e last j h c same =
+-- a closed epoch is the first one above the epoch that was closed before it
+pub first_after : (o e last : ℕ) (j : Journal) → InOrder o j → IsClosed e j → previous_closed e j ≡ last → first_of (following last j) ≡ Some e
+first_after o e last j h c same =
     let rises = closed_rise o j h in
     first_above 0 e last (closed_epochs j) o rises (all_positive o (closed_epochs j) rises) (closed_among e j c) (sym (previous_is e j) ∙ same)
 
--- and the other way round
-pub previous_of_first : (o e last : ℕ) (j : Journal) → InOrder o j → (last ≡ 0) ⊎ IsClosed last j → first_of (behind last j) ≡ Some e → previous_closed e j ≡ last
+-- if an epoch is the first closed one above `last`, then `last` is the epoch that was closed before
+-- it
+pub previous_of_first : (o e last : ℕ) (j : Journal) → InOrder o j → (last ≡ 0) ⊎ IsClosed last j → first_of (following last j) ≡ Some e → previous_closed e j ≡ last
 previous_of_first o e last j h known first =
     let rises = closed_rise o j h in
     previous_is e j ∙ below_first 0 e last (closed_epochs j) o rises (all_positive o (closed_epochs j) rises) (go known) first
@@ -278,14 +280,14 @@ previous_of_first o e last j h known first =
     go (inl q) = inl q
     go (inr c) = inr (closed_among last j c)
 
-pub first_is_closed : (e last : ℕ) (j : Journal) → first_of (behind last j) ≡ Some e → IsClosed e j
+pub first_is_closed : (e last : ℕ) (j : Journal) → first_of (following last j) ≡ Some e → IsClosed e j
 first_is_closed e last j first = among_closed e j (first_among last e (closed_epochs j) first)
 
--- what is behind the first is behind it
-pub behind_more : (o e last : ℕ) (j : Journal) (rest : List ℕ) → InOrder o j → behind last j ≡ e ∷ rest → behind e j ≡ rest
-behind_more o e last j rest h same = behind_first last e (closed_epochs j) rest o (closed_rise o j h) same
+-- the closed epochs after the first one above `last` are those above that first one
+pub after_more : (o e last : ℕ) (j : Journal) (rest : List ℕ) → InOrder o j → following last j ≡ e ∷ rest → following e j ≡ rest
+after_more o e last j rest h same = after_first last e (closed_epochs j) rest o (closed_rise o j h) same
 
--- the last number below e is below it, where it is p or among them
+-- the last number below `e`, or `p`, is below `e` if `p` is
 last_below_under : (p e : ℕ) (xs : List ℕ) → p < e → last_below p e xs < e
 last_below_under p e [] l = l
 last_below_under p e (x ∷ xs) l = go (λ m. last_below_under x e xs m) (last_below_under p e xs l) (lt_or_le x e)
@@ -294,11 +296,11 @@ last_below_under p e (x ∷ xs) l = go (λ m. last_below_under x e xs m) (last_b
     go more same (inl m) = let s = last_below_cons p e x xs m in let h : last_below x e xs < e = more m in omega arith
     go more same (inr m) = let s = last_below_skip p e x xs m in omega arith
 
--- an epoch is above the one closed before it
+-- an epoch is above the one that was closed before it
 pub previous_below : (e : ℕ) (j : Journal) → 0 < e → previous_closed e j < e
 previous_below e j l = let s = previous_is e j in let h : last_below 0 e (closed_epochs j) < e = last_below_under 0 e (closed_epochs j) l in omega arith
 
--- among rising numbers the last one below e is the greatest
+-- in a rising list the last number below `e` is the greatest one below it
 last_below_greatest : (p e y : ℕ) (xs : List ℕ) (top : ℕ) → Rises top xs → Among y xs → y < e → y ≤ last_below p e xs
 last_below_greatest p e y [] top rises a l = absurd a
 last_below_greatest p e y (x ∷ xs) top rises (inl q) l =
@@ -311,7 +313,7 @@ last_below_greatest p e y (x ∷ xs) top rises (inr a) l =
     let s = last_below_cons p e x xs m in
     let h : y ≤ last_below x e xs = last_below_greatest x e y xs top rises.3 a l in omega arith
 
--- no closed epoch stands between an epoch and the one closed before it
+-- no closed epoch is between an epoch and the one that was closed before it
 pub none_between : (o e y : ℕ) (j : Journal) → InOrder o j → IsClosed y j → previous_closed e j < y → e ≤ y
 none_between o e y j h c l = go (lt_or_le y e)
   where
@@ -359,14 +361,14 @@ cut_at last (x ∷ xs) top rises = go (lt_or_le last x) (cut_at last xs top rise
     go : (last < x) ⊎ (x ≤ last) → xs ≡ filter (λ y. nat_le y last) xs ++ filter (λ y. nat_lt last y) xs → x ∷ xs ≡ filter (λ y. nat_le y last) (x ∷ xs) ++ filter (λ y. nat_lt last y) (x ∷ xs)
     go (inl l) more =
         let all = all_above_more last x xs l rises.2 in
-        rw (none_upto last (x ∷ xs) (l, all), lt-ltb last x l) (ap (λ (ys : List ℕ). x ∷ ys) (sym (all_behind last xs all)))
+        rw (none_upto last (x ∷ xs) (l, all), lt-ltb last x l) (ap (λ (ys : List ℕ). x ∷ ys) (sym (all_after last xs all)))
     go (inr l) more = rw (le-leb x last l, le-ltb last x l) (ap (λ (ys : List ℕ). x ∷ ys) more)
 
--- the closed epochs are those up to one, and those behind it
-pub closed_cut : (o last : ℕ) (j : Journal) → InOrder o j → closed_epochs j ≡ upto last j ++ behind last j
+-- the closed epochs are those up to `last` and then those above it
+pub closed_cut : (o last : ℕ) (j : Journal) → InOrder o j → closed_epochs j ≡ upto last j ++ following last j
 closed_cut o last j h = cut_at last (closed_epochs j) o (closed_rise o j h)
 
--- those up to the first behind one are those up to that one, and it
+-- the numbers up to the first one above `last` are those up to `last` and then that one
 pub upto_more : (last e : ℕ) (xs rest : List ℕ) (top : ℕ) → Rises top xs → filter (λ x. nat_lt last x) xs ≡ e ∷ rest → filter (λ x. nat_le x e) xs ≡ filter (λ x. nat_le x last) xs ++ e ∷ []
 upto_more last e [] rest top rises same = absurd (let g : [] ≡ e ∷ rest = same in cc)
 upto_more last e (x ∷ xs) rest top rises same = go (lt_or_le last x) (λ later. upto_more last e xs rest top rises.3 later)
@@ -382,10 +384,10 @@ upto_more last e (x ∷ xs) rest top rises same = go (lt_or_le last x) (λ later
         let above : last < e = first_is_above last e xs rest later in
         rw (le-leb x e (omega arith), le-leb x last l) (ap (λ (ys : List ℕ). x ∷ ys) (more later))
 
-pub upto_next : (o last e : ℕ) (j : Journal) (rest : List ℕ) → InOrder o j → behind last j ≡ e ∷ rest → upto e j ≡ upto last j ++ e ∷ []
+pub upto_next : (o last e : ℕ) (j : Journal) (rest : List ℕ) → InOrder o j → following last j ≡ e ∷ rest → upto e j ≡ upto last j ++ e ∷ []
 upto_next o last e j rest h same = upto_more last e (closed_epochs j) rest o (closed_rise o j h) same
 
--- a close above it changes nothing up to an epoch
+-- a close of a greater epoch leaves the closed epochs up to `last` unchanged
 pub upto_closed : (last c : ℕ) (j : Journal) → last < c → upto last (Closed c ∷ j) ≡ upto last j
 upto_closed last c j l =
     filter-append (λ epoch. nat_le epoch last) (closed_epochs j) (c ∷ [])

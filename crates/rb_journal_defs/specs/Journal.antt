@@ -1,5 +1,6 @@
--- The journal of a site, its rows and its closed epochs. After the manual's chapter on NDB Cluster Replication: an epoch holds
--- whole transactions, and the applier writes its progress with the rows.
+-- The journal of a site, its rows and its closed epochs. As the MySQL manual describes for NDB
+-- Cluster Replication, an epoch holds whole transactions, and the applier writes its progress in
+-- the same transaction as the rows.
 use Rattle.std.specs.Prelude.{ℕ, ◌==◌, ◌&&◌, nat_lt, List, [], ◌∷◌, ◌++◌, filter, map, Bool, Option, Some, None, unwrap_or}
 use Rattle.std.specs.List.{last_or}
 use Rattle.rb_base.specs.Site.{server_of, peer_of}
@@ -10,24 +11,25 @@ use Rattle.rb_base.specs.declared.change.Kind.{Kind}
 use Rattle.rb_base.specs.declared.change.Kind.TheVariants.{Insert, Update, Remove}
 use Rattle.rb_base.specs.declared.change.Change.{Change}
 
--- what a site does: it accepts a client's transaction in its open epoch, applies an epoch of its peer in its own open epoch,
--- or closes its epoch
+-- what a site does: it commits a client's transaction in its open epoch, applies an epoch of its
+-- peer within its open epoch, or closes its open epoch
 pub data Entry : Type 0 where
   Client : (epoch transid : ℕ) → (changes : List Change) → Entry
   Applied : (epoch source transid : ℕ) → (accepted refreshes : List Change) → Entry
   Closed : (epoch : ℕ) → Entry
 
--- the newest entry is the head
+-- all that a site did, the newest entry first
 abbrev pub Journal : Type 0
 Journal = List Entry
 
--- the site's epoch in which an entry stands
+-- the site's own epoch to which an entry belongs
 abbrev pub epoch_of : Entry → ℕ
 epoch_of (Client epoch transid changes) = epoch
 epoch_of (Applied epoch source transid accepted refreshes) = epoch
 epoch_of (Closed epoch) = epoch
 
--- the applier's progress: the peer's row of the apply-status table gets the epoch that was applied
+-- the applier's progress: the peer's row of the apply-status table gets the number of the epoch
+-- that was applied
 abbrev pub status_change : SiteId → (source transid : ℕ) → Change
 status_change site source transid =
     let peer = server_of (peer_of site) in record {
@@ -46,29 +48,31 @@ changes_of site (Client epoch transid changes) = changes
 changes_of site (Applied epoch source transid accepted refreshes) = accepted ++ (refreshes ++ status_change site source transid ∷ [])
 changes_of site (Closed epoch) = []
 
--- a change names this key of this table
+-- a change is of this key of this table
 abbrev pub names_key : (table key : ℕ) → Change → Bool
 names_key table key change = (change.table == table) && (change.key == key)
 
--- those of these changes that name the key
+-- those of these changes that are of the key
 abbrev pub of_key : (table key : ℕ) → List Change → List Change
 of_key table key changes = filter (names_key table key) changes
 
--- the after image of an insert or an update, and none of a remove
+-- the row that a change of this kind leaves: the after image of an insert or an update, and none of
+-- a remove
 abbrev pub row_after_kind : Kind → Option Row → Option Row
 row_after_kind Insert after = after
 row_after_kind Update after = after
 row_after_kind Remove after = None
 
--- the row that a change leaves, by its kind and its after image
+-- the row that a change leaves, if it leaves one
 abbrev pub row_after : Change → Option Row
 row_after change = row_after_kind change.kind change.after
 
--- what changes of one key leave of its row: what the last of them leaves, or the row as it was
+-- the row that changes of one key leave: the row that the last of them leaves, or the row before
+-- them if there are no changes
 abbrev pub row_left : List Change → Option Row → Option Row
 row_left changes row = unwrap_or (last_or None (map row_after changes)) row
 
--- the row of a key: what the last change of it left, or none
+-- the row that the last change of a key left; none if the key was never changed
 abbrev pub row_at : SiteId → (table key : ℕ) → Journal → Option Row
 row_at site table key [] = None
 row_at site table key (entry ∷ older) = row_left (of_key table key (changes_of site entry)) (row_at site table key older)

@@ -11,33 +11,34 @@ use Rattle.rb_base.specs.declared.row.Row.{Row}
 use Rattle.rb_base.specs.declared.change.Change.{Change}
 use Rattle.rb_journal_defs.specs.Journal.{Journal, changes_of, row_at}
 
--- the key in the values of a row: the number of the first
+-- the key in the values of a row: the first value, if it is a number
 abbrev pub key_in : List Value → Option ℕ
 key_in [] = None
 key_in (Num key ∷ values) = Some key
 key_in (Text text ∷ values) = None
 
--- the key of a row, or 0 where its first value is no number
+-- the key of a row, or 0 if its first value is not a number
 abbrev pub key_of : Row → ℕ
 key_of row = unwrap_or (key_in row.values) 0
 
--- the keys of this table that changes name
+-- the keys of this table that these changes name, in the order of the changes
 abbrev pub keys_named : (table : ℕ) → List Change → List ℕ
 keys_named table changes = map (λ change. change.key) (filter (λ change. change.table == table) changes)
 
--- these keys in order, each once
+-- these keys in ascending order, each once
 abbrev pub in_order : List ℕ → List ℕ
 in_order keys = fold (insert_key nat_cmp) [] keys
 
--- the keys of a table that a journal names, in order
+-- the keys of a table that a journal names, in ascending order
 abbrev pub keys_of_table : SiteId → (table : ℕ) → Journal → List ℕ
 keys_of_table site table journal = in_order (keys_named table (flat_map (changes_of site) journal))
 
--- the rows of a table, by ascending key
+-- the rows of a table, in ascending order of their keys
 unfoldable pub rows_of_table : SiteId → (table : ℕ) → Journal → List Row
 rows_of_table site table journal = filter_map (λ key. row_at site table key journal) (keys_of_table site table journal)
 
--- these rows are those of a table in which a key has this row or none: a row for each key that has one, by ascending key
+-- these rows are the table in which each key has the row that `row_of` gives: one row for each key
+-- that has one, in ascending order of the keys
 pub record IsTable (row_of : ℕ → Option Row) (rows : List Row) : Type 0 where
   pub keys : List ℕ
   pub rising : IsStrictlyIncreasing keys

@@ -1,5 +1,7 @@
-//! What a site did, as a journal, and what can be read off it: rows, closed epochs, parts of buckets, bodies of epochs.
+//! The journal of a site, which lists what the site did, and what follows from it: rows, closed
+//! epochs, the parts of buckets, and the bodies of epochs.
 //!
-//! Definitions in `specs/` and laws of them in `proofs/`. A journal has its newest entry first; what goes to bytes, as
-//! bodies and epochs, has its oldest first. The code keeps no journal: each part of it stands for one of these words.
+//! The definitions are in `specs/`, and laws about them in `proofs/`. A journal lists its newest
+//! entry first; bodies and epochs, which are written as bytes, come oldest first. The code keeps no
+//! journal: each of its structures represents one of these definitions.
 #![tactic(auto)]

@@ -1,4 +1,4 @@
--- How many bytes an epoch of short rows has at most.
+-- A bound on the length of an epoch with short rows.
 use Rattle.std.proofs.Common.{◌≡◌, ◌≤◌, ◌*◌, ℕ, ◌+◌, ◌-◌, ◌^◌, List, [], ◌∷◌, ◌++◌, length, refl, arith, length-append}
 use Rattle.std.proofs.lemmas.List.{length-replicate}
 use Rattle.std.specs.Prelude.{map, codes, replicate, nat_le, Bool, true, false, if◌then◌else◌, Option, Some, None}
@@ -42,7 +42,7 @@ metadata_bound (Num ∷ columns) = let h = metadata_bound columns in omega arith
 metadata_bound (Long ∷ columns) = let h = metadata_bound columns in omega arith
 metadata_bound (Text most ∷ columns) = omega (arith, length-append (metadata_of (Text most)) (all_metadata columns), metadata_bound columns)
 
--- a table of at most 16 columns, whose schema is that of user tables and whose name is not long
+-- a table of at most 16 columns whose schema is that of user tables and whose name is short
 pub record IsNarrow (table : Mapped) : Type 0 where
   pub few : length table.columns ≤ 16
   pub schema : length table.schema ≡ 2
@@ -55,7 +55,7 @@ map_bound server table start narrow =
     let metadata : length (length_bytes (length (all_metadata table.columns))) ≡ 1 = length_one (length (all_metadata table.columns)) (omega arith) in
     omega (arith, event_length 19 server (table_map_payload table) start, table_map_payload_length table, length_one (length table.columns) (omega arith), bitmap_bound (length table.columns) few, narrow.schema, narrow.name, metadata, two)
 
--- a text and its length before it
+-- the length of a text with its length before it
 pub text_bound : (most : ℕ) (text : List ℕ) → length text ≤ most → length (text_bytes most text) ≤ most + (if nat_le most 255 then 1 else 2)
 unfolding text_bytes
 text_bound most text fits = go (nat_le most 255)
@@ -104,7 +104,7 @@ change_bound server columns change flags start short fits =
       images_bound change.kind columns change.before change.after short fits,
     )
 
--- the rows events of changes that fit short rows
+-- the length of the rows events of changes that have short rows
 changes_bound : (server : ℕ) (tables : List Mapped) (changes : List Change) (last : Placed) (most : ℕ) → ((at : ℕ) → length (last at) ≤ most) → AllByRecursion (λ change. AreShort (columns_of tables change.table) × Fits (columns_of tables change.table) change) changes → (start : ℕ) → length (joined_from start (change_events server tables changes ++ last ∷ [])) ≤ 2047 * length changes + most
 changes_bound server tables [] last most bound fit start = omega (arith, length-append (last start) [], bound start)
 changes_bound server tables (change ∷ changes) last most bound fit start =
@@ -116,7 +116,7 @@ changes_bound server tables (change ∷ changes) last most bound fit start =
       changes_bound server tables changes last most bound fit.1 (start + length event),
     )
 
--- table maps, and what follows them
+-- the length of table maps and of the events after them
 maps_bound : (server : ℕ) (tables : List Mapped) (rest : List Placed) (most : ℕ) → ((at : ℕ) → length (joined_from at rest) ≤ most) → AllByRecursion IsNarrow tables → (start : ℕ) → length (joined_from start (map (table_map_event server) tables ++ rest)) ≤ 117 * length tables + most
 maps_bound server [] rest most bound narrow start = let h : length (joined_from start rest) ≤ most = bound start in omega arith
 maps_bound server (table ∷ tables) rest most bound narrow start =
@@ -132,13 +132,13 @@ status_map_length : length (table_map_payload status_table) ≡ 43
 unfolding table_map_payload length_bytes
 status_map_length = refl
 
--- the status rows, one or two
+-- the length of the apply-status event, which has one row or two
 status_bound : (server epoch : ℕ) (reflected : Option Epoch) (tables : List Mapped) (changes : List Change) → length (status_payload (record { server = server; epoch = record { 0 = epoch }; reflected = reflected; tables = tables; changes = changes })) ≤ 72
 unfolding status_payload rows_payload row_image length_bytes text_bytes
 status_bound server epoch None tables changes = omega arith
 status_bound server epoch (Some other) tables changes = omega arith
 
--- an epoch of short rows: so many bytes, and so many for each table and each change
+-- the length of an epoch with short rows: a constant, and a constant for each table and each change
 pub epoch_bound : (body : EpochBody) (start : ℕ) → AllByRecursion IsNarrow body.tables → AllByRecursion (λ change. AreShort (columns_of body.tables change.table) × Fits (columns_of body.tables change.table) change) body.changes → length (epoch_bytes body start) ≤ 218 + 117 * length body.tables + 2047 * length body.changes
 unfolding epoch_bytes
 epoch_bound body start narrow fit =

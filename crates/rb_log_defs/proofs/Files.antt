@@ -1,4 +1,4 @@
--- How a binlog grows by one epoch.
+-- The growth of a binlog by one epoch.
 use Rattle.std.proofs.Common.{◌≡◌, ℕ, ◌+◌, ◌<◌, List, [], ◌∷◌, ◌++◌, length, length-append, drop, refl, ap, ◌∙◌, arith}
 use Rattle.std.proofs.lemmas.Bool.{lt-leb}
 use Rattle.std.proofs.lemmas.List.Sums.{fold-append}
@@ -28,7 +28,7 @@ one_file site limit bodies file one =
     let parts = only_item (binlog_of site limit bodies).closed (binlog_of site limit bodies).last file one in
     record { closed = parts.0; last = parts.1 }
 
--- below the limit nothing is rotated
+-- below the limit no file is rotated
 stays : (site : SiteId) (limit : ℕ) (log : Binlog) → length log.last < limit → rotated_at site limit log ≡ log
 stays site limit log below = rw (lt-leb limit (length log.last) below) refl
 

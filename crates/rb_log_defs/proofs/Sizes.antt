@@ -1,4 +1,4 @@
--- How many bytes each event has, wherever it starts.
+-- The length of each event, which does not depend on its position.
 use Rattle.std.proofs.Common.{◌≡◌, ◌≤◌, ◌<◌, ◌*◌, ℕ, ◌+◌, ◌-◌, List, [], ◌∷◌, ◌++◌, length, refl, arith, length-append}
 use Rattle.std.proofs.lemmas.List.{length-replicate, length-map}
 use Rattle.std.proofs.lemmas.Grind.{common_steps}
@@ -58,7 +58,7 @@ xid_payload_length xid = refl
 pub xid_length : (server xid start : ℕ) → length (xid_event server xid start) ≡ 27
 xid_length server xid start = omega (arith, event_length 16 server (xid_payload xid) start, xid_payload_length xid)
 
--- the size of an event is the same wherever it starts
+-- the length of an event does not depend on its position
 pub event_same_length : (kind server : ℕ) (payload : List ℕ) (start other : ℕ) → length (event_bytes kind server payload start) ≡ length (event_bytes kind server payload other)
 event_same_length kind server payload start other =
     omega (arith, event_length kind server payload start, event_length kind server payload other)
@@ -79,16 +79,16 @@ pub table_map_payload_length : (table : Mapped) → length (table_map_payload ta
 unfolding table_map_payload
 table_map_payload_length table = simp (length-append, length-map, length-replicate) (omega arith)
 
--- a bound of a table map, for conditions on where it ends
+-- a bound on the length of a table map, for conditions on the position after it
 pub table_map_bound : (server : ℕ) (table : Mapped) (start : ℕ) → CanBeMapped table → length (table_map_event server table start) ≤ 1000
 table_map_bound server table start mapped =
     omega (arith, event_length 19 server (table_map_payload table) start, table_map_payload_length table, metadata_bound table.columns, length_bytes_bound (length table.columns), length_bytes_bound (length (all_metadata table.columns)), mapped.schema, mapped.name, mapped.few)
 
--- an event that is as long wherever it starts
+-- an event whose length does not depend on its position
 abbrev pub IsSameLength : Placed → Type 0
 IsSameLength event = (start other : ℕ) → length (event start) ≡ length (event other)
 
--- events that are as long wherever they start
+-- events whose lengths do not depend on their positions
 abbrev pub AreSameLength : List Placed → Type 0
 AreSameLength [] = Unit {0}
 AreSameLength (event ∷ events) = IsSameLength event × AreSameLength events
@@ -132,7 +132,7 @@ events_same_length body =
       ),
     )
 
--- the size of an epoch is the same wherever it starts
+-- the length of an epoch does not depend on its position
 pub epoch_same_length : (body : EpochBody) (start other : ℕ) → length (epoch_bytes body start) ≡ length (epoch_bytes body other)
 unfolding epoch_bytes
 epoch_same_length body start other = joined_same_length (epoch_events body) (events_same_length body) start other
@@ -141,7 +141,7 @@ base_length : (site : SiteId) → length (base_name site) ≡ 6
 base_length A = refl
 base_length B = refl
 
--- a file's name, whose number has at most ten digits
+-- the length of a file's name, whose number has at most ten digits
 pub name_length : (site : SiteId) (number : ℕ) → number < 10000000000 → length (file_name site number) ≤ 16
 name_length site number few =
     let digits : length (decimal number) ≤ 10 = length-decimal-le 10 number (omega arith) (omega arith) (omega arith) in

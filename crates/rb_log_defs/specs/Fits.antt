@@ -1,5 +1,5 @@
--- What can be written: tables whose names and columns have room in their fields, rows that fit their columns. After the
--- row-event chapter of the binlog format, for the widths of the fields.
+-- Which tables and rows the log can hold: the names and columns of a table have room in their
+-- fields, and rows fit their columns. The widths of the fields are those of the binlog format.
 use Rattle.std.specs.Prelude.{◌<◌, ◌≤◌, ◌^◌, List, [], ◌∷◌, length, All, Option, Some, None, IsNone}
 use Rattle.rb_base.specs.declared.schema.Column.{Column}
 use Rattle.rb_base.specs.declared.schema.Column.TheVariants as columns
@@ -29,19 +29,19 @@ FitsColumn columns.Num (values.Text text) = ⊥
 FitsColumn columns.Long (values.Text text) = ⊥
 FitsColumn (columns.Text most) (values.Num n) = ⊥
 
--- as many values as columns, each in its column
+-- one value for each column, and each value fits its column
 abbrev pub FitsColumns : List Column → List Value → Type 0
 FitsColumns [] [] = Unit {0}
 FitsColumns (column ∷ columns) (value ∷ values) = FitsColumn column value × FitsColumns columns values
 FitsColumns [] (value ∷ values) = ⊥
 FitsColumns (column ∷ columns) [] = ⊥
 
--- the image of a row is there and fits
+-- the row is present and fits the columns
 abbrev pub IsImage : List Column → Option Row → Type 0
 IsImage columns None = ⊥
 IsImage columns (Some row) = FitsColumns columns row.values
 
--- a change has the images of its kind, and they fit these columns
+-- a change has the row images of its kind, and they fit these columns
 abbrev pub FitsKind : Kind → List Column → (before after : Option Row) → Type 0
 FitsKind Insert columns before after = IsNone before × IsImage columns after
 FitsKind Update columns before after = IsImage columns before × IsImage columns after
@@ -51,7 +51,8 @@ FitsKind Remove columns before after = IsImage columns before × IsNone after
 abbrev pub Fits : List Column → Change → Type 0
 Fits columns change = FitsKind change.kind columns change.before change.after
 
--- a body that can be written: its tables can be mapped, and each change fits its table, which has columns there
+-- a body that can be written: its tables can be mapped, each change fits its table, and the table
+-- of each change is among them with 1 to 64 columns
 pub record CanBeWritten (body : EpochBody) : Type 0 where
   pub tables : All CanBeMapped body.tables
   pub fit : All (λ change. Fits (columns_of body.tables change.table) change) body.changes

@@ -1,4 +1,4 @@
--- WRITE_ROWS, UPDATE_ROWS and DELETE_ROWS events, version 2. After the row-event chapter of the binlog format; the extra
+-- WRITE_ROWS, UPDATE_ROWS and DELETE_ROWS events, version 2, as in the binlog format. The extra
 -- data, which carries the transaction's number, is this project's own.
 use Rattle.std.specs.Prelude.{ℕ, ◌+◌, ◌-◌, ◌^◌, nat_le, if◌then◌else◌, List, [], ◌∷◌, ◌++◌, length, Option, Some, None}
 use Rattle.std.specs.List.{flat_map, zip}
@@ -17,11 +17,12 @@ use Rattle.rb_base.specs.declared.body.EpochBody.{EpochBody}
 use Rattle.rb_log_defs.specs.Event.{Placed, zeros, event_bytes}
 use Rattle.rb_log_defs.specs.Table.{bitmap_size, status_columns}
 
--- a text with its length before it, in 1 byte where the maximum is at most 255 and else in 2
+-- a text after its length, which takes 1 byte if the column's maximum is at most 255 and otherwise
+-- 2
 unfoldable pub text_bytes : (most : ℕ) → List ℕ → List ℕ
 text_bytes most text = little_bytes (if nat_le most 255 then 1 else 2) (length text) ++ text
 
--- a value in a column of its kind
+-- the bytes of a value in a column of its type
 abbrev pub value_bytes : Column → Value → List ℕ
 value_bytes columns.Num (values.Num n) = little_bytes 8 n
 value_bytes columns.Long (values.Num n) = little_bytes 4 n
@@ -34,16 +35,17 @@ value_bytes (columns.Text most) (values.Num n) = []
 abbrev pub values_bytes : List Column → List Value → List ℕ
 values_bytes columns values = flat_map (λ (pair : Column × Value). value_bytes pair.0 pair.1) (zip columns values)
 
--- a row image: which values are NULL, none, and the values
+-- a row image: a bitmap of the NULL values, which is all zero, and then the values
 unfoldable pub row_image : List Column → Row → List ℕ
 row_image columns row = zeros (bitmap_size (length columns)) ++ values_bytes columns row.values
 
--- the image of a row that may be absent
+-- the row image of a row, or no bytes if there is no row
 abbrev pub image_of : List Column → Option Row → List ℕ
 image_of columns None = []
 image_of columns (Some row) = row_image columns row
 
--- the row of a change: the after image of an insert, the before image of a remove, both of an update
+-- the row images of a change: the after image of an insert, the before image of a remove, and both
+-- of an update
 abbrev pub images_of : Kind → List Column → (before after : Option Row) → List ℕ
 images_of Insert columns before after = image_of columns after
 images_of Update columns before after = image_of columns before ++ image_of columns after
@@ -53,61 +55,64 @@ images_of Remove columns before after = image_of columns before
 abbrev pub present_bitmap : (columns : ℕ) → List ℕ
 present_bitmap columns = little_bytes (bitmap_size columns) (2 ^ columns - 1)
 
--- the present bitmaps of a kind: an update has one for each image
+-- the present bitmaps of a rows event: one for each row image, so an update has two
 abbrev pub present_bitmaps : Kind → (columns : ℕ) → List ℕ
 present_bitmaps Insert columns = present_bitmap columns
 present_bitmaps Update columns = present_bitmap columns ++ present_bitmap columns
 present_bitmaps Remove columns = present_bitmap columns
 
--- table id, flags, extra data with its length, number of columns, the columns present, the rows
+-- the payload of a rows event: table id, flags, the extra data after its length, number of columns,
+-- present bitmaps, row images
 unfoldable pub rows_payload : (table flags : ℕ) (extra : List ℕ) (columns : ℕ) (present rows : List ℕ) → List ℕ
 rows_payload table flags extra columns present rows =
     little_bytes 6 table ++ (little_bytes 2 flags ++ (little_bytes 2 (2 + length extra) ++ (extra
     ++ (length_bytes columns ++ (present ++ rows)))))
 
--- the event type of a kind
+-- the event type of each kind of change
 abbrev pub rows_type : Kind → ℕ
 rows_type Insert = 30
 rows_type Update = 31
 rows_type Remove = 32
 
--- STMT_END_F, which the last rows event of an epoch carries, where `later` are the changes after it
+-- the flag STMT_END_F, which only the last rows event of an epoch carries; `later` are the changes
+-- after this event
 abbrev pub end_flag : List Change → ℕ
 end_flag [] = 1
 end_flag (change ∷ later) = 0
 
--- the extra data of a data rows event: `52` and the transaction's number
+-- the extra data of a change's rows event: the byte `52` and the transaction's number
 abbrev pub transid_extra : ℕ → List ℕ
 transid_extra transid = 82 ∷ little_bytes 8 transid
 
--- the rows event of one change, with the flag of the changes after it
+-- the payload of the rows event of one change
 unfoldable pub change_payload : List Column → Change → (flags : ℕ) → List ℕ
 change_payload columns change flags =
     rows_payload change.table flags (transid_extra change.transid) (length columns)
     (present_bitmaps change.kind (length columns)) (images_of change.kind columns change.before change.after)
 
--- that event, by the type of the change's kind
+-- the rows event of one change
 abbrev pub change_event : (server : ℕ) → List Column → Change → (flags : ℕ) → Placed
 change_event server columns change flags = event_bytes (rows_type change.kind) server (change_payload columns change flags)
 
--- a row of mysql.ndb_apply_status: a server and the last epoch of its that is in the rows
+-- a row of mysql.ndb_apply_status: a server id, and the last epoch of that server whose rows are
+-- applied
 abbrev pub status_row : (server epoch : ℕ) → Row
 status_row server epoch =
     record { values = values.Num server ∷ values.Num epoch ∷ values.Text [] ∷ values.Num 0 ∷ values.Num 0 ∷ [] }
 
--- the primary's row in the status of an epoch that reflects one of its epochs
+-- the apply-status row of the primary, in an epoch that reflects one of the primary's epochs
 abbrev pub reflected_row : Option Epoch → List ℕ
 reflected_row None = []
 reflected_row (Some epoch) = row_image status_columns (status_row 1 epoch.0)
 
--- the apply-status rows of an epoch: the site's own, and the reflected one
+-- the apply-status rows of an epoch: the site's own row, and then the row of the reflected epoch
 abbrev pub status_rows : EpochBody → List ℕ
 status_rows body = row_image status_columns (status_row body.server body.epoch.0) ++ reflected_row body.reflected
 
--- the rows event of the apply-status rows; it carries the flag where no change follows
+-- the payload of the rows event of the apply-status rows; it carries the flag if no change follows
 unfoldable pub status_payload : EpochBody → List ℕ
 status_payload body = rows_payload 0 (end_flag body.changes) [] (length status_columns) (present_bitmap (length status_columns)) (status_rows body)
 
--- that event, a write
+-- the rows event of the apply-status rows, which is a write
 abbrev pub status_event : EpochBody → Placed
 status_event body = event_bytes 30 body.server (status_payload body)

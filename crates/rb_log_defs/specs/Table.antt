@@ -1,4 +1,5 @@
--- TABLE_MAP_EVENT: which table an id means in the rows events after it. After the row-event chapter of the binlog format.
+-- TABLE_MAP_EVENT, which names the table of an id for the rows events after it, as in the binlog
+-- format.
 use Rattle.std.specs.Prelude.{ℕ, ◌+◌, ◌/◌, ◌==◌, List, [], ◌∷◌, ◌++◌, length, map, find, codes}
 use Rattle.std.specs.List.{flat_map}
 use Rattle.std.specs.Option.{option_map_or}
@@ -9,13 +10,13 @@ use Rattle.rb_base.specs.declared.schema.Column.TheVariants.{Num, Long, Text}
 use Rattle.rb_base.specs.declared.schema.Mapped.{Mapped}
 use Rattle.rb_log_defs.specs.Event.{Placed, zeros, event_bytes}
 
--- the type byte of a column: LONGLONG, LONG, VARCHAR
+-- the type byte of a column: LONGLONG, LONG or VARCHAR
 abbrev pub type_of : Column → ℕ
 type_of Num = 8
 type_of Long = 3
 type_of (Text most) = 15
 
--- the metadata of a column: for a VARCHAR its maximum
+-- the metadata of a column: the maximum length of a VARCHAR, and nothing for a number
 abbrev pub metadata_of : Column → List ℕ
 metadata_of Num = []
 metadata_of Long = []
@@ -25,11 +26,12 @@ metadata_of (Text most) = little_bytes 2 most
 abbrev pub all_metadata : List Column → List ℕ
 all_metadata columns = flat_map metadata_of columns
 
--- how many bytes a bitmap of so many columns has
+-- the length in bytes of a bitmap with one bit for each of these columns
 abbrev pub bitmap_size : ℕ → ℕ
 bitmap_size columns = (columns + 7) / 8
 
--- table id, flags, the schema's name, the table's name, the columns' types, their metadata, and which may be NULL: none
+-- the payload of a table map event: table id, flags, the schema's name, the table's name, the types
+-- of the columns, their metadata, and a bitmap of the columns that may be NULL, which is all zero
 unfoldable pub table_map_payload : Mapped → List ℕ
 table_map_payload table =
     little_bytes 6 table.id ++ (zeros 2
@@ -38,18 +40,18 @@ table_map_payload table =
     ++ (length_bytes (length (all_metadata table.columns)) ++ (all_metadata table.columns
     ++ zeros (bitmap_size (length table.columns)))))))))))))
 
--- the table map event, of type 19
+-- the table map event of a table, of type 19
 abbrev pub table_map_event : (server : ℕ) → Mapped → Placed
 table_map_event server table = event_bytes 19 server (table_map_payload table)
 
--- the columns of a table, by its id
+-- the columns of the table with this id, or none if no table has it
 abbrev pub columns_of : List Mapped → ℕ → List Column
 columns_of tables id = option_map_or (λ table. table.columns) (find (λ table. table.id == id) tables) []
 
--- mysql.ndb_apply_status: server id, epoch, log name, start and end position
+-- the columns of mysql.ndb_apply_status: server id, epoch, log name, start position, end position
 abbrev pub status_columns : List Column
 status_columns = Long ∷ Num ∷ Text 255 ∷ Num ∷ Num ∷ []
 
--- that table in the log, with id 0
+-- mysql.ndb_apply_status as the log maps it, with id 0
 abbrev pub status_table : Mapped
 status_table = record { id = 0; schema = codes "mysql"; name = codes "ndb_apply_status"; columns = status_columns }

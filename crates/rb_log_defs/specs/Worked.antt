@@ -1,5 +1,5 @@
--- The worked example, and others, with what the definitions give for them: bytes, positions and places that were worked out
--- by hand.
+-- The worked examples and what the definitions give for them: bytes, positions and places that were
+-- worked out by hand.
 use Rattle.std.specs.Prelude.{ℕ, List, [], ◌∷◌, map, drop, codes, Some, None}
 use Rattle.rb_base.specs.declared.body.IndexRow.{IndexRow}
 use Rattle.rb_base.specs.declared.schema.Column.TheVariants as columns
@@ -10,11 +10,11 @@ use Rattle.rb_base.specs.declared.change.Kind.TheVariants.{Insert}
 use Rattle.rb_base.specs.declared.change.Change.{Change}
 use Rattle.rb_base.specs.declared.body.EpochBody.{EpochBody}
 
--- a table t of one number behind its key
+-- a table `t` with a key and one number
 abbrev pub table_t : Mapped
 table_t = record { id = 1; schema = codes "db"; name = codes "t"; columns = columns.Num ∷ columns.Num ∷ [] }
 
--- an insert of two numbers at site A
+-- an insert of a key and a number at site A
 abbrev pub insert : (key value transid : ℕ) → Change
 insert key value transid =
     record { table = 1; key = key; kind = Insert; before = None; after = Some (record { values = values.Num key ∷ values.Num value ∷ [] }); author = 1; transid = transid }
@@ -24,37 +24,37 @@ abbrev pub epoch_of_inserts : (epoch : ℕ) → List Change → EpochBody
 epoch_of_inserts epoch changes =
     record { server = 1; epoch = record { 0 = epoch }; reflected = None; tables = table_t ∷ []; changes = changes }
 
--- the worked example: keys 5 and 6 in the first epoch
+-- the first worked example: inserts of the keys 5 and 6 in the first epoch
 abbrev pub first_path : EpochBody
 first_path = epoch_of_inserts 4294967296 (insert 5 7 1 ∷ insert 6 8 2 ∷ [])
 
--- two epochs with empty ones between them: the first, and micro GCI 1 of GCI 2
+-- two epochs with empty epochs between them: the first epoch, and micro GCI 1 of GCI 2
 abbrev pub around_empty_epochs : List EpochBody
 around_empty_epochs = epoch_of_inserts 4294967296 (insert 1 1 1 ∷ []) ∷ epoch_of_inserts 8589934593 (insert 2 2 2 ∷ []) ∷ []
 
--- a table whose text has this maximum
+-- a table with a text column of this maximum length
 abbrev pub text_table : (id : ℕ) → List ℕ → (most : ℕ) → Mapped
 text_table id name most = record { id = id; schema = codes "db"; name = name; columns = columns.Num ∷ columns.Text most ∷ [] }
 
--- the greatest key with a text of one letter
+-- a row with the greatest key and a text of one letter
 abbrev pub text_row : Row
 text_row = record { values = values.Num 18446744073709551615 ∷ values.Text (codes "a") ∷ [] }
 
--- its insert
+-- the insert of that row
 abbrev pub text_insert : (table : ℕ) → Change
 text_insert table =
     record { table = table; key = 18446744073709551615; kind = Insert; before = None; after = Some text_row; author = 1; transid = 1 }
 
--- one such row in a table of each length's width
+-- one such insert for each width of a text's length: a table with 1 byte and a table with 2
 abbrev pub text_ends : EpochBody
 text_ends =
     record { server = 1; epoch = record { 0 = 4294967296 }; reflected = None; tables = text_table 1 (codes "x") 255 ∷ text_table 2 (codes "y") 256 ∷ []; changes = text_insert 1 ∷ text_insert 2 ∷ [] }
 
--- what each of these files has behind a position
-abbrev pub behind : (at : ℕ) → List (List ℕ) → List (List ℕ)
-behind at files = map (drop at) files
+-- the bytes of each file from this position on
+abbrev pub following : (at : ℕ) → List (List ℕ) → List (List ℕ)
+following at files = map (drop at) files
 
--- the file, the position and the end of each of these index rows
+-- the file, the start and the end of each of these index rows
 abbrev pub places_of : List IndexRow → List (ℕ × ℕ × ℕ)
 places_of rows = map (λ row. (row.file, row.position, row.next_position)) rows
 
@@ -67,7 +67,7 @@ start_bytes =
     0x00 ∷ 0x00 ∷ 0x00 ∷ 0x00 ∷ 0x00 ∷ 0x00 ∷ 0x00 ∷ 0x13 ∷ 0x00 ∷ 0x0d ∷ 0x00 ∷ 0x08 ∷ 0x00 ∷ 0x00 ∷ 0x00 ∷ 0x00 ∷ 0x00 ∷ 0x00 ∷ 0x00 ∷ 0x00 ∷ 0x00 ∷ 0x00 ∷ 0x5c ∷ 0x00 ∷
     0x00 ∷ 0x00 ∷ 0x08 ∷ 0x00 ∷ 0x00 ∷ 0x00 ∷ 0x00 ∷ 0x00 ∷ 0x00 ∷ 0x00 ∷ 0x00 ∷ 0x00 ∷ 0x00 ∷ 0x0a ∷ 0x0a ∷ 0x0a ∷ 0x00 ∷ 0x00 ∷ 0x00 ∷ []
 
--- the epoch of the worked example behind it, 341 bytes
+-- the epoch of the first worked example after that start, 341 bytes
 abbrev pub first_path_bytes : List ℕ
 first_path_bytes =
     0x00 ∷ 0x00 ∷ 0x00 ∷ 0x00 ∷ 0x02 ∷ 0x01 ∷ 0x00 ∷ 0x00 ∷ 0x00 ∷ 0x26 ∷ 0x00 ∷ 0x00 ∷ 0x00 ∷ 0x99 ∷ 0x00 ∷ 0x00 ∷ 0x00 ∷ 0x00 ∷ 0x00 ∷ 0x00 ∷ 0x00 ∷ 0x00 ∷ 0x00 ∷ 0x00 ∷
@@ -86,25 +86,25 @@ first_path_bytes =
     0x00 ∷ 0x00 ∷ 0x00 ∷ 0x00 ∷ 0x00 ∷ 0x00 ∷ 0x10 ∷ 0x01 ∷ 0x00 ∷ 0x00 ∷ 0x00 ∷ 0x1b ∷ 0x00 ∷ 0x00 ∷ 0x00 ∷ 0xc8 ∷ 0x01 ∷ 0x00 ∷ 0x00 ∷ 0x00 ∷ 0x00 ∷ 0x00 ∷ 0x00 ∷ 0x00 ∷
     0x00 ∷ 0x01 ∷ 0x00 ∷ 0x00 ∷ 0x00 ∷ []
 
--- file 0 of the worked example
+-- file 0 of the first worked example
 abbrev pub first_path_index : List ℕ
 first_path_index =
     0x01 ∷ 0x00 ∷ 0x00 ∷ 0x00 ∷ 0x00 ∷ 0x01 ∷ 0x00 ∷ 0x00 ∷ 0x00 ∷ 0x00 ∷ 0x00 ∷ 0x00 ∷ 0x00 ∷ 0x01 ∷ 0x00 ∷ 0x00 ∷ 0x00 ∷ 0x73 ∷ 0x00 ∷ 0x00 ∷ 0x00 ∷ 0x00 ∷ 0x00 ∷ 0x00 ∷
     0x00 ∷ 0xc8 ∷ 0x01 ∷ 0x00 ∷ 0x00 ∷ 0x00 ∷ 0x00 ∷ 0x00 ∷ 0x00 ∷ 0x01 ∷ 0x00 ∷ 0x00 ∷ 0x00 ∷ 0x01 ∷ 0x00 ∷ 0x00 ∷ 0x00 ∷ 0x02 ∷ 0x00 ∷ 0x00 ∷ 0x00 ∷ 0x00 ∷ 0x00 ∷ 0x00 ∷
     0x00 ∷ 0x00 ∷ 0x00 ∷ 0x00 ∷ 0x00 ∷ 0x00 ∷ 0x00 ∷ 0x00 ∷ 0x00 ∷ 0x01 ∷ 0x00 ∷ 0x00 ∷ 0x00 ∷ 0x01 ∷ 0x00 ∷ 0x00 ∷ 0x00 ∷ 0x00 ∷ []
 
--- the rotate event at 683 that names file 2
+-- the rotate event at position 683, which names file 2
 abbrev pub rotate_bytes : List ℕ
 rotate_bytes =
     0x00 ∷ 0x00 ∷ 0x00 ∷ 0x00 ∷ 0x04 ∷ 0x01 ∷ 0x00 ∷ 0x00 ∷ 0x00 ∷ 0x27 ∷ 0x00 ∷ 0x00 ∷ 0x00 ∷ 0xd2 ∷ 0x02 ∷ 0x00 ∷ 0x00 ∷ 0x00 ∷ 0x00 ∷ 0x04 ∷ 0x00 ∷ 0x00 ∷ 0x00 ∷ 0x00 ∷
     0x00 ∷ 0x00 ∷ 0x00 ∷ 0x61 ∷ 0x2d ∷ 0x62 ∷ 0x69 ∷ 0x6e ∷ 0x2e ∷ 0x30 ∷ 0x30 ∷ 0x30 ∷ 0x30 ∷ 0x30 ∷ 0x32 ∷ []
 
--- the image of the text row under a maximum of 255; under one of 256 the length has two bytes
+-- the row image of `text_row` if the column's maximum is 255; the length takes 1 byte
 abbrev pub short_text_image : List ℕ
 short_text_image =
     0x00 ∷ 0xff ∷ 0xff ∷ 0xff ∷ 0xff ∷ 0xff ∷ 0xff ∷ 0xff ∷ 0xff ∷ 0x01 ∷ 0x61 ∷ []
 
--- the second of these
+-- the row image of `text_row` if the column's maximum is 256; the length takes 2 bytes
 abbrev pub long_text_image : List ℕ
 long_text_image =
     0x00 ∷ 0xff ∷ 0xff ∷ 0xff ∷ 0xff ∷ 0xff ∷ 0xff ∷ 0xff ∷ 0xff ∷ 0x01 ∷ 0x00 ∷ 0x61 ∷ []

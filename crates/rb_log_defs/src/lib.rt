@@ -1,8 +1,10 @@
-//! The binary log as it is written: events, row images, epochs, files with their rotation, index rows.
+//! The binary log as it is written: events, row images, epochs, files with their rotation, and
+//! index rows.
 //!
-//! Definitions in `specs/`, each after the chapter of the public standard that it names, and laws of them in `proofs/`. The
-//! functions of [`worked`] compute the definitions on worked examples: each has an empty body, and its contract is what
-//! they give. The writers, the injector and the top call cite the definitions.
+//! The definitions are in `specs/`; each file names the public format that it follows. Laws about
+//! them are in `proofs/`. The functions of [`worked`] compute the definitions on worked examples:
+//! each has an empty body, and its contract states the result. The writers, the injector and the
+//! top call cite the definitions.
 #![tactic(auto)]
 
 mod worked;

@@ -14,16 +14,16 @@ use Rattle.rb_text_defs.specs.Report.{labelled, letter_of}
 abbrev pub offset_text : ℕ → List ℕ
 offset_text offset = encode_lower (drop 4 (big_bytes 8 offset))
 
--- the line of this number: where it begins, and at most 32 bytes from there on
+-- line `number`: its offset, and at most 32 bytes from there on
 abbrev pub bytes_line : List ℕ → (number : ℕ) → List ℕ
 bytes_line bytes number =
     offset_text (number * 32) ++ (32 ∷ (encode_lower (take 32 (drop (number * 32) bytes)) ++ 10 ∷ []))
 
--- these bytes, in lines
+-- the bytes, in lines
 abbrev pub bytes_text : List ℕ → List ℕ
 bytes_text bytes = flat_map (bytes_line bytes) (numbers_below (div_ceil (length bytes) 32))
 
--- what the file of this number is called: file 0 is the index, the others are binlog files
+-- the name of a file: file 0 is the index, the others are binlog files
 abbrev pub log_name : SiteId → (number : ℕ) → List ℕ
 log_name site zero = codes "ndb_binlog_index"
 log_name site (suc number) = file_name site (suc number)
@@ -33,7 +33,7 @@ abbrev pub heading : SiteId → (number size : ℕ) → List ℕ
 heading site number size =
     concat (codes "file " ∷ letter_of site ∷ labelled (codes " ") number ∷ codes " name=" ∷ log_name site number ∷ labelled (codes " length=") size ∷ (10 ∷ []) ∷ [])
 
--- a file; of an empty one nothing
+-- a file as text; nothing for an empty one
 abbrev pub file_text : SiteId → (number : ℕ) → List ℕ → List ℕ
 file_text site number [] = []
 file_text site number (byte ∷ bytes) = heading site number (length (byte ∷ bytes)) ++ bytes_text (byte ∷ bytes)

@@ -8,11 +8,11 @@ use rb_codec::file_name;
 use rb_disk::{LogDisk, MemoryDisk};
 use std::alloc::Global;
 
-/// How many bytes a line shows at most.
+/// The most bytes that a line shows.
 const LINE_SIZE: usize = 32;
 
-/// The files of both sites as text, site A's first: for each file that is not empty its name and length, and its bytes in
-/// hexadecimal. It fails only for want of memory.
+/// Returns the files of both sites as text, site A's first: for each file that is not empty its
+/// name and length, and its bytes in hexadecimal. The only error is `NoMemory`.
 pub(crate) fn dump(
     alloc: Global,
     disk_a: &MemoryDisk,
@@ -42,7 +42,7 @@ fn put_site(
     Ok(())
 }
 
-// Appends a file; of an empty one nothing.
+// Appends a file; nothing for an empty one.
 fn put_file(
     alloc: Global,
     text: &mut Vec<u8>,
@@ -82,7 +82,7 @@ fn put_heading(
     Ok(())
 }
 
-// The letter of a site.
+// Returns the letter of a site.
 fn letter(site: SiteId) -> &'static [u8]
     ensures { result.now ≡ letter_of site }
 {
@@ -92,7 +92,7 @@ fn letter(site: SiteId) -> &'static [u8]
     }
 }
 
-// Appends what the file of this number is called.
+// Appends the name of a file.
 fn put_name(alloc: Global, text: &mut Vec<u8>, site: SiteId, number: u32) -> Result<(), NoMemory>
     ensures { OnOk result (text.new.items ≡ text.old.items ++ name_in_log site number) }
 {
@@ -104,7 +104,7 @@ fn put_name(alloc: Global, text: &mut Vec<u8>, site: SiteId, number: u32) -> Res
     Ok(())
 }
 
-// Appends these bytes, in lines.
+// Appends the bytes, in lines.
 #[tactic(auto, using(crate::proofs::TextLaws::number_put))]
 fn put_bytes(alloc: Global, text: &mut Vec<u8>, bytes: &[u8]) -> Result<(), NoMemory>
     ensures { OnOk result (text.new.items ≡ text.old.items ++ bytes_text bytes.now) }
@@ -115,7 +115,7 @@ fn put_bytes(alloc: Global, text: &mut Vec<u8>, bytes: &[u8]) -> Result<(), NoMe
     Ok(())
 }
 
-// Appends the line of this number: where it begins, and the bytes from there on.
+// Appends line `number`: its offset, and the bytes from there on.
 #[tactic(auto, using(crate::proofs::TextLaws::line_put))]
 fn put_line(alloc: Global, text: &mut Vec<u8>, bytes: &[u8], number: usize) -> Result<(), NoMemory>
     requires { number * 32 < length bytes.now }
@@ -128,7 +128,7 @@ fn put_line(alloc: Global, text: &mut Vec<u8>, bytes: &[u8], number: usize) -> R
     Ok(())
 }
 
-// The bytes of the line of this number.
+// Returns the bytes of line `number`.
 fn shown(bytes: &[u8], number: usize) -> &[u8]
     requires { number * 32 < length bytes.now }
     ensures { result.now ≡ take 32 (drop (number * 32) bytes.now) }
@@ -137,7 +137,7 @@ fn shown(bytes: &[u8], number: usize) -> &[u8]
     &rest[..LINE_SIZE.min(rest.len())]
 }
 
-// Appends an offset as eight digits.
+// Appends an offset as eight hexadecimal digits.
 fn put_offset(alloc: Global, text: &mut Vec<u8>, offset: u64) -> Result<(), NoMemory>
     ensures { OnOk result (text.new.items ≡ text.old.items ++ offset_text offset) }
 {

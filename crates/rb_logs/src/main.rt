@@ -1,9 +1,9 @@
-//! A second program over the same call as the first: it runs a script over two devices in memory, throws the report away, and
-//! prints the files of both devices, byte by byte.
+//! A second program over the same call. It runs a script over two devices in memory, drops the
+//! report, and prints the files of both devices, byte by byte.
 //!
-//! Its contracts are that the words are those of a run, and that what it prints of two devices is exactly the text that the
-//! definitions give. Below it stand [`rb_top::top`], which carries the theorem, and what each status means to a shell; nothing
-//! stands above.
+//! Its contracts say that the words are those of a run, and that the text printed is exactly the
+//! one that the definitions give for two devices. [`rb_top::top`], which carries the theorem, and
+//! the exit numbers stand below; nothing stands above.
 #![tactic(auto)]
 
 ghost use Rattle.std.specs.Prelude.{◌≡◌, ◌∷◌, [], codes, IfOk};
@@ -16,7 +16,7 @@ mod tests;
 use crate::print::print_files;
 use rb_base::{Bytes, NoMemory, OutFault};
 use rb_disk::MemoryDisk;
-use rb_ending::{exit_number, tell};
+use rb_ending::{exit_number, print_status};
 use rb_io::{StdSink, StdSource, SteadySink};
 use rb_top::{Status, top};
 use std::alloc::Global;
@@ -26,8 +26,8 @@ use std::thread::Threads;
 
 fn main(rt: HostRuntime) -> ExitCode {
     let status = run(&rt, rt.stdin(), rt.stdout());
-    // Where standard error fails too, the exit number is all that is left to say.
-    let _ = tell(rt.alloc(), &mut StdSink::new(rt.stderr()), status);
+    // If standard error fails too, only the exit number is left to report the failure.
+    let _ = print_status(rt.alloc(), &mut StdSink::new(rt.stderr()), status);
     ExitCode::from(exit_number(status))
 }
 
@@ -51,7 +51,7 @@ where
     }
 }
 
-// Runs the script on the input over these devices. Its report is thrown away.
+// Runs the script on the input over these devices. The report is dropped.
 fn run_script<R, I>(rt: &R, input: I, disk_a: &mut MemoryDisk, disk_b: &mut MemoryDisk) -> Status
 where
     R: Threads + Sync + AllocGlobal,
@@ -72,7 +72,7 @@ where
     )
 }
 
-// The words of a run: the one word `run`.
+// Returns the words of a run: the one word `run`.
 fn run_words(alloc: Global) -> Result<Vec<Bytes>, NoMemory>
     ensures { IfOk result (λ words. words.items ≡ codes "run" ∷ []) }
 {

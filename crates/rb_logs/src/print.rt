@@ -10,16 +10,19 @@ use rb_disk::MemoryDisk;
 use rb_io::{Sink, write_all};
 use std::alloc::Global;
 
-/// Prints the files of both sites' devices. At an `Err` a front of the text may be written.
+/// Prints the files of both sites' devices. At an `Err` a prefix of the text may be written.
 pub(crate) fn print_files<O: Sink>(
     alloc: Global,
     disk_a: &MemoryDisk,
     disk_b: &MemoryDisk,
     out: &mut O,
 ) -> Result<(), OutFault>
-    ensures whole { OnOk result (Appends (O.held out.old) (O.held out.new) (dump_text disk_a.now disk_b.now)) }
-    ensures part { OnErr result (GrowsByPrefix (O.held out.old) (O.held out.new) (dump_text disk_a.now disk_b.now)) }
-    ensures failed { IsErrOf result OutFault.Failed → Rose (O.fault_count out.old) (O.fault_count out.new) }
+    ensures whole { OnOk result (Appends (O.held out.old) (O.held out.new)
+        (dump_text disk_a.now disk_b.now)) }
+    ensures part { OnErr result (GrowsByPrefix (O.held out.old) (O.held out.new)
+        (dump_text disk_a.now disk_b.now)) }
+    ensures failed { IsErrOf result OutFault.Failed →
+        Rose (O.fault_count out.old) (O.fault_count out.new) }
 {
     let text = dump(alloc, disk_a, disk_b)?;
     write_all(out, text.as_slice())?;

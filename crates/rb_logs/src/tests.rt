@@ -8,7 +8,7 @@ use rb_io::{MemorySink, SteadySink};
 use std::alloc::Global;
 use std::test::Fail;
 
-// A device with these bytes in a file.
+// Returns a device with these bytes in a file.
 fn device(alloc: Global, file: u32, bytes: &[u8]) -> Result<MemoryDisk, Fail>
     requires { file < 2 ^ 32 - 1 }
 {
@@ -17,7 +17,7 @@ fn device(alloc: Global, file: u32, bytes: &[u8]) -> Result<MemoryDisk, Fail>
     Ok(disk)
 }
 
-// A file of one byte, one of 32 bytes and one of 33. The empty files before them and between them are left out.
+// A file of one byte, one of 32 bytes and one of 33. Empty files are left out.
 #[test]
 fn files_are_dumped(rt: HostRuntime) -> Result<(), Fail> {
     let alloc = rt.alloc();

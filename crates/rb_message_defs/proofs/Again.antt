@@ -1,4 +1,4 @@
--- What nodes send again are messages of the journal.
+-- The messages that nodes resend are messages of the journal.
 use Rattle.std.proofs.Common.{◌≡◌, ℕ, ◌+◌, ◌<◌, Bool, true, false, cond, List, [], ◌∷◌, ◌++◌, length, filter, refl, sym, ap, subst, ◌∙◌, arith, inl, inr, append_assoc, length-append}
 use Rattle.std.specs.Prelude.{nat_lt, Some}
 use Rattle.std.specs.List.{AllByRecursion, enumerate_from, flat_map, slice_get}
@@ -13,7 +13,7 @@ use Rattle.rb_journal_defs.proofs.Order.{Among, among_closed}
 use Rattle.rb_message_defs.specs.Nodes.{part_messages, messages_of, unacknowledged, sent_from}
 use Rattle.rb_message_defs.proofs.Messages.{IsSentOf, get_end, all_joined, all_mapped}
 
--- each item stands at its number
+-- a fact about all items of all lists holds for the items of their concatenation
 pub all_flat : {X Y : Type 0} → (P : Y → Type 0) (f : X → List Y) (xs : List X) → AllByRecursion (λ x. AllByRecursion P (f x)) xs → AllByRecursion P (flat_map f xs)
 all_flat P f [] all = tt
 all_flat P f (x ∷ xs) all = all_joined P (f x) (flat_map f xs) all.0 (all_flat P f xs all.1)
@@ -41,7 +41,7 @@ pub messages_are_own : (shape : Shape) (bucket : ℕ) (j : Journal) (epoch : ℕ
 messages_are_own shape bucket j epoch within closed =
     all_joined (IsSentOf shape j) (part_messages shape epoch bucket j) _ (parts_are_own shape epoch bucket j within) ((within, (closed, refl, refl)), tt)
 
--- the closed epochs, or some of them, are closed
+-- the closed epochs that pass a test are closed
 closed_are : (j : Journal) (test : ℕ → Bool) (epochs : List ℕ) → ((e : ℕ) → Among e epochs → IsClosed e j) → AllByRecursion (λ e. IsClosed e j) (filter test epochs)
 closed_are j test [] all = tt
 closed_are j test (e ∷ es) all = go (test e) (closed_are j test es (λ f among. all f (inr among)))
@@ -61,7 +61,7 @@ again_is_own shape acknowledged opened j bucket within =
     each [] all = tt
     each (e ∷ es) all = (messages_are_own shape bucket j e within all.0, each es all.1)
 
--- whoever sends them
+-- the sender of a message does not matter
 pub sent_from_own : (shape : Shape) (j : Journal) (sender : ℕ) (ms : List Message) → AllByRecursion (IsSentOf shape j) ms → AllByRecursion (λ (s : Sent). IsSentOf shape j s.message) (sent_from sender ms)
 sent_from_own shape j sender [] all = tt
 sent_from_own shape j sender (m ∷ ms) all = (all.0, sent_from_own shape j sender ms all.1)

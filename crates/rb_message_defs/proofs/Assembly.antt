@@ -1,4 +1,5 @@
--- What an event buffer puts together from messages of one journal: the next closed epoch, with the parts of the journal.
+-- The epoch that an event buffer assembles from messages of one journal: the next closed epoch,
+-- with the parts of the journal.
 use Rattle.std.proofs.Common.{◌≡◌, ℕ, zero, suc, ◌<◌, ◌≤◌, Bool, true, false, cond, List, [], ◌∷◌, ◌++◌, length, map, take, refl, sym, ap, subst, ◌∙◌, inl, inr, arith, eqb-true, eq-eqb}
 use Rattle.std.specs.Prelude.{◌⊎◌, ◌==◌, ◌&&◌, Option, Some, None, is_none, is_some, if◌then◌else◌}
 use Rattle.std.specs.List.{AllByRecursion, slice_get, filter_map, cons_option, list_all, find, take_while}
@@ -13,37 +14,38 @@ use Rattle.rb_journal_defs.specs.Journal.{Journal, previous_closed}
 use Rattle.rb_journal_defs.specs.Body.{Shape, part_of, numbers_below}
 use Rattle.rb_journal_defs.specs.Order.{InOrder, IsClosed}
 use Rattle.rb_journal_defs.specs.Transaction.{first_of}
-use Rattle.rb_journal_defs.proofs.Order.{behind, behind_more, first_behind, previous_of_first}
+use Rattle.rb_journal_defs.proofs.Order.{following, after_more, first_after, previous_of_first}
 use Rattle.rb_message_defs.specs.declared.answers.Assembled.{Assembled}
-use Rattle.rb_message_defs.specs.Received.{Fed, change_for, count_for, part_in, count_in, missing_below, missing_of_bucket, is_whole, epoch_behind, next_epoch, part_received, assembly, assembled_of}
+use Rattle.rb_message_defs.specs.Received.{Fed, change_for, count_for, part_in, count_in, missing_below, missing_of_bucket, is_whole, epoch_following, next_epoch, part_received, assembly, assembled_of}
 use Rattle.rb_message_defs.specs.Taken.{taken_epochs}
 use Rattle.rb_message_defs.proofs.Messages.{IsSentOf}
 
 some_injective : {X : Type 0} (x y : X) → Some x ≡ Some y → x ≡ y
 some_injective x y same = cc
 
--- the epoch that a message of the journal names as behind one is the first behind it
-behind_is_first : (shape : Shape) (o last e : ℕ) (j : Journal) (m : Message) → InOrder o j → IsSentOf shape j m → epoch_behind last m ≡ Some e → first_of (behind last j) ≡ Some e
-behind_is_first shape o last e j (Part bucket epoch place change) h sent same = absurd (let g : None ≡ Some e = same in cc)
-behind_is_first shape o last e j (Done bucket epoch prev count) h sent same = go (prev.0 == last) refl same
+-- the epoch of a journal's Done whose previous epoch is `last` is the first closed epoch above
+-- `last`
+after_is_first : (shape : Shape) (o last e : ℕ) (j : Journal) (m : Message) → InOrder o j → IsSentOf shape j m → epoch_following last m ≡ Some e → first_of (following last j) ≡ Some e
+after_is_first shape o last e j (Part bucket epoch place change) h sent same = absurd (let g : None ≡ Some e = same in cc)
+after_is_first shape o last e j (Done bucket epoch prev count) h sent same = go (prev.0 == last) refl same
   where
-    go : (b : Bool) → (prev.0 == last) ≡ b → cond b (Some epoch.0) None ≡ Some e → first_of (behind last j) ≡ Some e
+    go : (b : Bool) → (prev.0 == last) ≡ b → cond b (Some epoch.0) None ≡ Some e → first_of (following last j) ≡ Some e
     go false q same = absurd (let g : None ≡ Some e = same in cc)
     go true q same =
         let p : prev.0 ≡ last = eqb-true prev.0 last q in
-        let first : first_of (behind last j) ≡ Some epoch.0 = first_behind o epoch.0 last j h sent.1.0 (sym sent.1.1 ∙ p) in
+        let first : first_of (following last j) ≡ Some epoch.0 = first_after o epoch.0 last j h sent.1.0 (sym sent.1.1 ∙ p) in
         first ∙ same
 
--- the next epoch is the first closed one behind the last taken one
-next_is_first : (shape : Shape) (o last e : ℕ) (j : Journal) (received : List Message) → InOrder o j → AllByRecursion (IsSentOf shape j) received → first_of (filter_map (epoch_behind last) received) ≡ Some e → first_of (behind last j) ≡ Some e
+-- the next epoch is the first closed one above the last taken one
+next_is_first : (shape : Shape) (o last e : ℕ) (j : Journal) (received : List Message) → InOrder o j → AllByRecursion (IsSentOf shape j) received → first_of (filter_map (epoch_following last) received) ≡ Some e → first_of (following last j) ≡ Some e
 next_is_first shape o last e j [] h all same = absurd (let g : None ≡ Some e = same in cc)
-next_is_first shape o last e j (m ∷ ms) h all same = go (epoch_behind last m) refl same (λ later. next_is_first shape o last e j ms h all.1 later)
+next_is_first shape o last e j (m ∷ ms) h all same = go (epoch_following last m) refl same (λ later. next_is_first shape o last e j ms h all.1 later)
   where
-    go : (x : Option ℕ) → epoch_behind last m ≡ x → first_of (cons_option x (filter_map (epoch_behind last) ms)) ≡ Some e → (first_of (filter_map (epoch_behind last) ms) ≡ Some e → first_of (behind last j) ≡ Some e) → first_of (behind last j) ≡ Some e
+    go : (x : Option ℕ) → epoch_following last m ≡ x → first_of (cons_option x (filter_map (epoch_following last) ms)) ≡ Some e → (first_of (filter_map (epoch_following last) ms) ≡ Some e → first_of (following last j) ≡ Some e) → first_of (following last j) ≡ Some e
     go None q same more = more same
-    go (Some f) q same more = behind_is_first shape o last e j m h all.0 (q ∙ same)
+    go (Some f) q same more = after_is_first shape o last e j m h all.0 (q ∙ same)
 
--- a count that was received is that of the journal
+-- the number of changes that was received is the one of the journal
 pub count_is : (shape : Shape) (e b c : ℕ) (j : Journal) (received : List Message) → AllByRecursion (IsSentOf shape j) received → count_in received e b ≡ Some c → c ≡ length (part_of shape e b j)
 count_is shape e b c j [] all same = absurd (let g : None ≡ Some c = same in cc)
 count_is shape e b c j (m ∷ ms) all same = go (count_in ms e b) refl same (λ later. count_is shape e b c j ms all.1 later)
@@ -65,7 +67,7 @@ count_is shape e b c j (m ∷ ms) all same = go (count_in ms e b) refl same (λ 
     go None q same more = here m all.0 same
     go (Some d) q same more = more (q ∙ same)
 
--- a change that was received is that of the journal
+-- a change that was received is the one of the journal
 pub part_is : (shape : Shape) (e b p : ℕ) (change : Change) (j : Journal) (received : List Message) → AllByRecursion (IsSentOf shape j) received → part_in received e b p ≡ Some change → slice_get (part_of shape e b j) p ≡ Some change
 part_is shape e b p change j [] all same = absurd (let g : None ≡ Some change = same in cc)
 part_is shape e b p change j (m ∷ ms) all same = go (part_in ms e b p) refl same (λ later. part_is shape e b p change j ms all.1 later)
@@ -90,13 +92,13 @@ part_is shape e b p change j (m ∷ ms) all same = go (part_in ms e b p) refl sa
     go None q same more = here m all.0 same
     go (Some d) q same more = more (q ∙ same)
 
--- a bucket of which nothing is missing: its count is there, and every place below it
+-- a bucket with no message missing: its number of changes is known, and every place below it is
 record IsComplete (received : List Message) (e b : ℕ) : Type 0 where
   count : ℕ
   is : count_in received e b ≡ Some count
   places : (p : ℕ) → p < count → is_some (part_in received e b p) ≡ true
 
--- what is found among none is not among them
+-- if no number below `n` passes the test, each of them fails it
 find_none : (test : ℕ → Bool) (n : ℕ) → find test (numbers_below n) ≡ None → (p : ℕ) → p < n → test p ≡ false
 find_none test zero none p l = absurd (omega arith)
 find_none test (suc n) none p l = go (find_parts test (numbers_below n) n none) (λ m. find_none test n m p) (eq_or_below p n (omega arith))
@@ -132,7 +134,7 @@ mapped_none : {X Y : Type 0} → (f : X → Y) (x : Option X) → option_map f x
 mapped_none f None q = refl
 mapped_none f (Some x) q = absurd (let g : Some (f x) ≡ None = q in cc)
 
--- a bucket of which nothing is missing is complete
+-- a bucket with no message missing is complete
 complete : (received : List Message) (e b : ℕ) → is_none (missing_of_bucket received e b) ≡ true → IsComplete received e b
 complete received e b none = go (count_in received e b) refl none
   where
@@ -147,7 +149,7 @@ complete received e b none = go (count_in received e b) refl none
           (none_is (missing_below received e b (Some c)) none)) p l);
     }
 
--- what all pass, each does
+-- if all numbers below `n` pass the test, each of them passes it
 each_below : (test : ℕ → Bool) (n : ℕ) → list_all test (numbers_below n) ≡ true → (b : ℕ) → b < n → test b ≡ true
 each_below test zero all b l = absurd (omega arith)
 each_below test (suc n) all b l = go (all_parts test (numbers_below n) n all) (λ m. each_below test n m b) (eq_or_below b n (omega arith))
@@ -171,7 +173,7 @@ each_below test (suc n) all b l = go (all_parts test (numbers_below n) n all) (�
     go parts more (inl q) = ap test q ∙ parts.1
     go parts more (inr m) = more parts.0 m
 
--- a list by its places
+-- a list is its items in the order of their places
 by_places : {X : Type 0} → (f : ℕ → Option X) (xs : List X) (n : ℕ) → n ≤ length xs → ((p : ℕ) → p < n → f p ≡ slice_get xs p) → filter_map f (numbers_below n) ≡ take n xs
 by_places f xs zero l same = refl
 by_places {X} f xs (suc n) l same =
@@ -189,7 +191,7 @@ some_of : {X : Type 0} → (x : Option X) → is_some x ≡ true → (y : X) × 
 some_of None q = absurd (let g : false ≡ true = q in cc)
 some_of (Some y) q = (y, refl)
 
--- the part of a complete bucket is that of the journal
+-- the part of a complete bucket is the one of the journal
 complete_part : (shape : Shape) (e b : ℕ) (j : Journal) (received : List Message) → AllByRecursion (IsSentOf shape j) received → IsComplete received e b → part_received received e b ≡ part_of shape e b j
 complete_part shape e b j received all whole =
     let counted : whole.count ≡ length (part_of shape e b j) = count_is shape e b whole.count j received all whole.is in
@@ -199,7 +201,7 @@ complete_part shape e b j received all whole =
     ∙ by_places (part_in received e b) (part_of shape e b j) whole.count (omega arith) same
     ∙ take_all whole.count (part_of shape e b j) (omega arith)
 
--- the epoch that an event buffer can put together, by the journal
+-- the epoch that an event buffer can assemble, as the journal gives it
 abbrev pub journal_assembly : Shape → (last : ℕ) → Journal → (epoch : ℕ) → Assembled
 journal_assembly shape last j e = record {
   epoch = record { 0 = e };
@@ -216,31 +218,33 @@ parts_same shape e (suc n) j received all whole =
     ∙ ap (λ (p : List Change). map (λ bucket. part_of shape e bucket j) (numbers_below n) ++ p ∷ []) (complete_part shape e n j received all (complete received e n (whole n (omega arith))))
     ∙ sym (map-append (λ bucket. part_of shape e bucket j) (numbers_below n) (n ∷ []))
 
--- a bucket's count that was received came with a Done of its epoch, so that the next epoch is known
-next_is_known : (shape : Shape) (e b c last : ℕ) (j : Journal) (received : List Message) → AllByRecursion (IsSentOf shape j) received → previous_closed e j ≡ last → count_in received e b ≡ Some c → is_some (first_of (filter_map (epoch_behind last) received)) ≡ true
+-- if the number of changes of a bucket was received, the Done of that bucket was, so the next epoch
+-- is known
+next_is_known : (shape : Shape) (e b c last : ℕ) (j : Journal) (received : List Message) → AllByRecursion (IsSentOf shape j) received → previous_closed e j ≡ last → count_in received e b ≡ Some c → is_some (first_of (filter_map (epoch_following last) received)) ≡ true
 next_is_known shape e b c last j [] all prev same = absurd (let g : None ≡ Some c = same in cc)
 next_is_known shape e b c last j (m ∷ ms) all prev same = go (count_in ms e b) refl same (λ later. next_is_known shape e b c last j ms all.1 prev later)
   where
-    or_later : (x : Option ℕ) → is_some (first_of (filter_map (epoch_behind last) ms)) ≡ true → is_some (first_of (cons_option x (filter_map (epoch_behind last) ms))) ≡ true
+    or_later : (x : Option ℕ) → is_some (first_of (filter_map (epoch_following last) ms)) ≡ true → is_some (first_of (cons_option x (filter_map (epoch_following last) ms))) ≡ true
     or_later None known = known
     or_later (Some f) known = refl
 
-    here : (m : Message) → IsSentOf shape j m → count_for e b m ≡ Some c → is_some (first_of (cons_option (epoch_behind last m) (filter_map (epoch_behind last) ms))) ≡ true
+    here : (m : Message) → IsSentOf shape j m → count_for e b m ≡ Some c → is_some (first_of (cons_option (epoch_following last m) (filter_map (epoch_following last) ms))) ≡ true
     here (Part bucket epoch place change) sent same = absurd (let g : None ≡ Some c = same in cc)
     here (Done bucket epoch before count) sent same = own (epoch.0 == e) (bucket == b) refl same
       where
-        own : (x y : Bool) → (epoch.0 == e) ≡ x → cond (x && y) (Some count) None ≡ Some c → is_some (first_of (cons_option (cond (before.0 == last) (Some epoch.0) None) (filter_map (epoch_behind last) ms))) ≡ true
+        own : (x y : Bool) → (epoch.0 == e) ≡ x → cond (x && y) (Some count) None ≡ Some c → is_some (first_of (cons_option (cond (before.0 == last) (Some epoch.0) None) (filter_map (epoch_following last) ms))) ≡ true
         own true y p same =
             let ee : epoch.0 ≡ e = eqb-true epoch.0 e p in
             let bb : before.0 ≡ last = sent.1.1 ∙ ap (λ (n : ℕ). previous_closed n j) ee ∙ prev in
             rw (eq-eqb before.0 last bb) refl
         own false y p same = absurd (let g : None ≡ Some c = same in cc)
 
-    go : (x : Option ℕ) → count_in ms e b ≡ x → option_or x (count_for e b m) ≡ Some c → (count_in ms e b ≡ Some c → is_some (first_of (filter_map (epoch_behind last) ms)) ≡ true) → is_some (first_of (filter_map (epoch_behind last) (m ∷ ms))) ≡ true
+    go : (x : Option ℕ) → count_in ms e b ≡ x → option_or x (count_for e b m) ≡ Some c → (count_in ms e b ≡ Some c → is_some (first_of (filter_map (epoch_following last) ms)) ≡ true) → is_some (first_of (filter_map (epoch_following last) (m ∷ ms))) ≡ true
     go None q same more = here m all.0 same
-    go (Some d) q same more = or_later (epoch_behind last m) (more (q ∙ same))
+    go (Some d) q same more = or_later (epoch_following last m) (more (q ∙ same))
 
--- what an event buffer was fed from a journal: messages of it, behind an epoch that is closed, or behind none
+-- the history of an event buffer whose messages are those of a journal and whose last taken epoch
+-- is closed, or 0
 pub record IsFedFrom (shape : Shape) (opened : ℕ) (j : Journal) (fed : Fed) : Type 0 where
   pub order : InOrder opened j
   pub some : 0 < shape.buckets
@@ -248,8 +252,8 @@ pub record IsFedFrom (shape : Shape) (opened : ℕ) (j : Journal) (fed : Fed) : 
   pub last : (fed.last ≡ 0) ⊎ IsClosed fed.last j
   pub received : AllByRecursion (IsSentOf shape j) fed.received
 
--- a whole first epoch is known to be the next
-whole_is_known : (shape : Shape) (o e : ℕ) (j : Journal) (fed : Fed) → IsFedFrom shape o j fed → first_of (behind fed.last j) ≡ Some e → is_whole fed e ≡ true → next_epoch fed ≡ Some e
+-- if the first closed epoch above the last taken one is whole, it is known to be the next
+whole_is_known : (shape : Shape) (o e : ℕ) (j : Journal) (fed : Fed) → IsFedFrom shape o j fed → first_of (following fed.last j) ≡ Some e → is_whole fed e ≡ true → next_epoch fed ≡ Some e
 whole_is_known shape o e j fed from first whole =
     let b : 0 < fed.buckets = let s = from.some in let q = from.buckets in omega arith in
     let zero_whole = each_below (λ bucket. is_none (missing_of_bucket fed.received e bucket)) fed.buckets whole 0 b in
@@ -259,7 +263,7 @@ whole_is_known shape o e j fed from first whole =
     let head = next_is_first shape o fed.last known.0 j fed.received from.order from.received known.1 in
     known.1 ∙ sym head ∙ first
 
--- the head of what is taken
+-- the first of the epochs that can be taken
 taken_head : (p : ℕ → Bool) (es : List ℕ) (e : ℕ) → first_of es ≡ Some e → first_of (take_while p es) ≡ cond (p e) (Some e) None
 taken_head p [] e first = absurd (let g : None ≡ Some e = first in cc)
 taken_head p (x ∷ xs) e first =
@@ -270,12 +274,13 @@ taken_head p (x ∷ xs) e first =
     go true = refl
     go false = refl
 
--- what an event buffer puts together is the first epoch that can be taken, with the journal's parts
+-- the epoch that an event buffer assembles is the first one that can be taken, with the journal's
+-- parts
 pub assembled_is_taken : (shape : Shape) (o : ℕ) (j : Journal) (fed : Fed) → IsFedFrom shape o j fed → assembled_of fed ≡ option_map (journal_assembly shape fed.last j) (first_of (taken_epochs fed j))
 unfolding assembled_of taken_epochs
-assembled_is_taken shape o j fed from = go (next_epoch fed) refl (first_of (behind fed.last j)) refl
+assembled_is_taken shape o j fed from = go (next_epoch fed) refl (first_of (following fed.last j)) refl
   where
-    made : (e : ℕ) → first_of (behind fed.last j) ≡ Some e → (b : Bool) → is_whole fed e ≡ b → cond b (Some (assembly fed e)) None ≡ option_map (journal_assembly shape fed.last j) (cond b (Some e) None)
+    made : (e : ℕ) → first_of (following fed.last j) ≡ Some e → (b : Bool) → is_whole fed e ≡ b → cond b (Some (assembly fed e)) None ≡ option_map (journal_assembly shape fed.last j) (cond b (Some e) None)
     made e first true whole =
         let q = from.buckets in
         let below : (b : ℕ) → b < fed.buckets → is_none (missing_of_bucket fed.received e b) ≡ true = each_below (λ bucket. is_none (missing_of_bucket fed.received e bucket)) fed.buckets whole in
@@ -283,33 +288,33 @@ assembled_is_taken shape o j fed from = go (next_epoch fed) refl (first_of (behi
         ap (λ (ps : List (List Change)). Some (record { epoch = record { 0 = e }; prev = record { 0 = fed.last }; parts = ps })) parts
     made e first false whole = refl
 
-    go : (next : Option ℕ) → next_epoch fed ≡ next → (head : Option ℕ) → first_of (behind fed.last j) ≡ head → option_and_then (λ epoch. if is_whole fed epoch then Some (assembly fed epoch) else None) next ≡ option_map (journal_assembly shape fed.last j) (first_of (take_while (is_whole fed) (behind fed.last j)))
+    go : (next : Option ℕ) → next_epoch fed ≡ next → (head : Option ℕ) → first_of (following fed.last j) ≡ head → option_and_then (λ epoch. if is_whole fed epoch then Some (assembly fed epoch) else None) next ≡ option_map (journal_assembly shape fed.last j) (first_of (take_while (is_whole fed) (following fed.last j)))
     go (Some e) q head first =
         let front = next_is_first shape o fed.last e j fed.received from.order from.received q in
-        made e front (is_whole fed e) refl ∙ ap (option_map (journal_assembly shape fed.last j)) (sym (taken_head (is_whole fed) (behind fed.last j) e front))
-    go None q None first = none_taken (behind fed.last j) first
+        made e front (is_whole fed e) refl ∙ ap (option_map (journal_assembly shape fed.last j)) (sym (taken_head (is_whole fed) (following fed.last j) e front))
+    go None q None first = none_taken (following fed.last j) first
       where
         none_taken : (es : List ℕ) → first_of es ≡ None → None ≡ option_map (journal_assembly shape fed.last j) (first_of (take_while (is_whole fed) es))
         none_taken [] first = refl
         none_taken (x ∷ xs) first = absurd (let g : Some x ≡ None = first in cc)
     go None q (Some e) first = not_whole (is_whole fed e) refl
       where
-        not_whole : (b : Bool) → is_whole fed e ≡ b → None ≡ option_map (journal_assembly shape fed.last j) (first_of (take_while (is_whole fed) (behind fed.last j)))
+        not_whole : (b : Bool) → is_whole fed e ≡ b → None ≡ option_map (journal_assembly shape fed.last j) (first_of (take_while (is_whole fed) (following fed.last j)))
         not_whole true whole = absurd (let g : None ≡ Some e = sym q ∙ whole_is_known shape o e j fed from first whole in cc)
-        not_whole false whole = sym (ap (option_map (journal_assembly shape fed.last j)) (taken_head (is_whole fed) (behind fed.last j) e first ∙ ap (λ (b : Bool). cond b (Some e) None) whole))
+        not_whole false whole = sym (ap (option_map (journal_assembly shape fed.last j)) (taken_head (is_whole fed) (following fed.last j) e first ∙ ap (λ (b : Bool). cond b (Some e) None) whole))
 
--- what can be taken behind the first epoch that can be taken
+-- the epochs that can be taken after the first one
 pub taken_rest : (o e : ℕ) (rest : List ℕ) (j : Journal) (fed : Fed) → InOrder o j → taken_epochs fed j ≡ e ∷ rest → taken_epochs (record fed { last = e }) j ≡ rest
 unfolding taken_epochs
-taken_rest o e rest j fed h same = go (behind fed.last j) refl same
+taken_rest o e rest j fed h same = go (following fed.last j) refl same
   where
-    go : (es : List ℕ) → behind fed.last j ≡ es → take_while (is_whole fed) es ≡ e ∷ rest → take_while (is_whole fed) (behind e j) ≡ rest
+    go : (es : List ℕ) → following fed.last j ≡ es → take_while (is_whole fed) es ≡ e ∷ rest → take_while (is_whole fed) (following e j) ≡ rest
     go [] q same = absurd (let g : [] ≡ e ∷ rest = same in cc)
     go (x ∷ xs) q same = own (is_whole fed x) (sym (take_while-cons (is_whole fed) x xs) ∙ same)
       where
-        own : (b : Bool) → cond b (x ∷ take_while (is_whole fed) xs) [] ≡ e ∷ rest → take_while (is_whole fed) (behind e j) ≡ rest
+        own : (b : Bool) → cond b (x ∷ take_while (is_whole fed) xs) [] ≡ e ∷ rest → take_while (is_whole fed) (following e j) ≡ rest
         own true same =
             let xe : x ≡ e = cc in
             let tail : take_while (is_whole fed) xs ≡ rest = cc in
-            ap (take_while (is_whole fed)) (behind_more o e fed.last j xs h (q ∙ ap (λ (y : ℕ). y ∷ xs) xe)) ∙ tail
+            ap (take_while (is_whole fed)) (after_more o e fed.last j xs h (q ∙ ap (λ (y : ℕ). y ∷ xs) xe)) ∙ tail
         own false same = absurd (let g : [] ≡ e ∷ rest = same in cc)

@@ -1,4 +1,5 @@
--- The messages of one journal are chained, and the epoch that can be put together from them is the journal's.
+-- The messages of one journal are chained, and the epoch that can be assembled from them is the
+-- journal's.
 use Rattle.std.proofs.Common.{◌≡◌, ℕ, ◌<◌, ◌≤◌, List, [], subst, inl, inr, arith}
 use Rattle.std.specs.Prelude.{◌⊎◌, Some, None, Contains}
 use Rattle.std.specs.List.{AllByRecursion, slice_get}
@@ -14,7 +15,7 @@ use Rattle.rb_message_defs.specs.Message.{epoch_in, IsMessageOf}
 use Rattle.rb_message_defs.specs.Received.{AreChained}
 use Rattle.rb_message_defs.proofs.Messages.{IsSentOf}
 
--- what stands in a list has what all have
+-- a fact about all items of a list holds for each of them
 pub of_all : {X : Type 0} → (P : X → Type 0) (xs : List X) (x : X) → AllByRecursion P xs → Contains xs x → P x
 of_all P xs x all there = subst P there.2 (All-from_recursion P xs all there.0 x there.1)
 

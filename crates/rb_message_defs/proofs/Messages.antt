@@ -1,4 +1,5 @@
--- Laws on the messages of a journal: what was sent stays a message of it, and what is sent becomes one.
+-- Laws on the messages of a journal: a message that was sent stays a message of the journal, and a
+-- message that a commit sends becomes one.
 use Rattle.std.proofs.Common.{◌≡◌, ◌≢◌, ℕ, ◌%◌, zero, suc, eq-eqb, ne_eqb, ◌+◌, ◌<◌, ◌≤◌, List, [], ◌∷◌, ◌++◌, length, take, map, filter, refl, sym, ap, subst, ◌∙◌, inl, inr, arith, le-ltb, mod-lt, append_assoc}
 use Rattle.std.specs.Prelude.{◌⊎◌, ◌==◌, nat_lt, if◌then◌else◌, Some, None, unwrap_or}
 use Rattle.std.specs.List.{AllByRecursion, enumerate_from, slice_get, last_or}
@@ -25,7 +26,7 @@ pub get_end : {X : Type 0} → (xs : List X) (y : X) (ys : List X) → slice_get
 get_end [] y ys = refl
 get_end (x ∷ xs) y ys = get_end xs y ys
 
--- a commit appends to the parts of the open epoch, and to no other
+-- a commit appends to the parts of the open epoch and of no other epoch
 pub part_of_commit : (shape : Shape) (o t e b : ℕ) (cs : List Change) (j : Journal) → (e ≡ o) ⊎ (e ≢ o) →
     part_of shape e b (Client o t cs ∷ j) ≡ part_of shape e b j ++ (if e == o then in_bucket shape.buckets b cs else [])
 part_of_commit shape o t e b cs j (inl q) =
@@ -39,7 +40,7 @@ part_of_commit shape o t e b cs j (inr n) =
 pub part_of_close : (shape : Shape) (e b c : ℕ) (j : Journal) → part_of shape e b (Closed c ∷ j) ≡ part_of shape e b j
 part_of_close shape e b c j = ap (in_bucket shape.buckets b) (changes_in_closed shape.site e c j)
 
--- a message stays one at a commit
+-- a message of the journal stays one at a commit
 pub stays_at_commit : (shape : Shape) (o t : ℕ) (cs : List Change) (j : Journal) (m : Message) → InOrder o j → IsMessageOf shape j m → IsMessageOf shape (Client o t cs ∷ j) m
 stays_at_commit shape o t cs j (Part bucket epoch place change) h is =
     let more = part_of_commit shape o t epoch.0 bucket cs j (eq_or_ne epoch.0 o) in
@@ -49,14 +50,14 @@ stays_at_commit shape o t cs j (Done bucket epoch prev count) h is =
     let same : part_of shape epoch.0 bucket (Client o t cs ∷ j) ≡ part_of shape epoch.0 bucket j = ap (in_bucket shape.buckets bucket) (changes_elsewhere shape.site epoch.0 (Client o t cs) j (omega arith)) in
     (is.0, is.1, is.2 ∙ ap length (sym same))
 
--- the epochs below one stay at a close of one that is not below it
+-- a close of an epoch that is not below `e` leaves the epoch before `e` unchanged
 pub previous_stays : (e o : ℕ) (j : Journal) → e ≤ o → previous_closed e (Closed o ∷ j) ≡ previous_closed e j
 previous_stays e o j l =
     let ends : filter (λ c. nat_lt c e) (closed_epochs j ++ o ∷ []) ≡ filter (λ c. nat_lt c e) (closed_epochs j) =
     filter-append (λ c. nat_lt c e) (closed_epochs j) (o ∷ []) ∙ rw (le-ltb o e l) (append-nil (filter (λ c. nat_lt c e) (closed_epochs j))) in
     ap (λ (es : List ℕ). unwrap_or (last_or None es) 0) ends
 
--- and at a close
+-- a message of the journal stays one at a close
 pub stays_at_close : (shape : Shape) (o : ℕ) (j : Journal) (m : Message) → InOrder o j → IsMessageOf shape j m → IsMessageOf shape (Closed o ∷ j) m
 stays_at_close shape o j (Part bucket epoch place change) h is =
     subst (λ (part : List Change). slice_get part place ≡ Some change) (sym (part_of_close shape epoch.0 bucket o j)) is
@@ -64,7 +65,7 @@ stays_at_close shape o j (Done bucket epoch prev count) h is =
     let below : epoch.0 < o = closed_below o epoch.0 j h is.0 in
     (inr is.0, is.1 ∙ sym (previous_stays epoch.0 o j (omega arith)), is.2 ∙ ap length (sym (part_of_close shape epoch.0 bucket o j)))
 
--- what a list of facts gives for another
+-- facts about all items that follow from other facts about them
 pub all_more : {X : Type 0} → (P Q : X → Type 0) (xs : List X) → ((x : X) → P x → Q x) → AllByRecursion P xs → AllByRecursion Q xs
 all_more P Q [] f all = tt
 all_more P Q (x ∷ xs) f all = (f x all.0, all_more P Q xs f all.1)
@@ -73,7 +74,7 @@ pub all_joined : {X : Type 0} → (P : X → Type 0) (xs ys : List X) → AllByR
 all_joined P [] ys first second = second
 all_joined P (x ∷ xs) ys first second = (first.0, all_joined P xs ys first.1 second)
 
--- what a commit sends, one change and then the others
+-- the messages of a commit, the first change and then the others
 enumerate_shift : {X Y : Type 0} → (f : ℕ × X → Y) (n : ℕ) (xs : List X) → map f (enumerate_from (n + 1) xs) ≡ map (λ p. f (p.0 + 1, p.1)) (enumerate_from n xs)
 enumerate_shift f n [] = refl
 enumerate_shift f n (x ∷ xs) = ap (λ (ys : List _). f (n + 1, x) ∷ ys) (enumerate_shift f (n + 1) xs)
@@ -94,7 +95,7 @@ parts_sent_first buckets e earlier cs c =
     ap (λ (m : Message). m ∷ map (λ (numbered : ℕ × Change). part_message buckets e (earlier ++ take numbered.0 (c ∷ cs)) numbered.1) (enumerate_from 1 cs)) first
     ∙ ap (λ (ms : List Message). part_message buckets e earlier c ∷ ms) (shift ∙ same)
 
--- the change that stands behind these in the part of its bucket
+-- the change after these earlier ones in the part of its bucket
 place_in_part : (shape : Shape) (earlier later : List Change) (c : Change) →
     let b = bucket_number c.table c.key shape.buckets in
     slice_get (in_bucket shape.buckets b (earlier ++ c ∷ later)) (length (in_bucket shape.buckets b earlier)) ≡ Some c
@@ -105,14 +106,14 @@ place_in_part shape earlier later c =
     filter-append (λ change. bucket_number change.table change.key shape.buckets == b) earlier (c ∷ later) ∙ ap (λ (cs : List Change). in_bucket shape.buckets b earlier ++ cs) here in
     rw parts (get_end (in_bucket shape.buckets b earlier) c (in_bucket shape.buckets b later))
 
--- a message whose bucket is one of these, and that is one of the journal
+-- a message of one of the site's buckets that is a message of the journal
 abbrev pub IsSentOf : Shape → Journal → Message → Type 0
 IsSentOf shape journal m = (bucket_in m < shape.buckets) × IsMessageOf shape journal m
 
 pub bucket_within : (table key buckets : ℕ) → 0 < buckets → bucket_number table key buckets < buckets
 bucket_within table key buckets some = mod-lt (key % buckets + table) some
 
--- what a commit sends are messages of the journal behind it
+-- the messages that a commit sends are messages of the journal after it
 parts_from : (shape : Shape) (o t : ℕ) (earlier cs all : List Change) (j : Journal) → 0 < shape.buckets → changes_in shape.site o j ++ all ≡ earlier ++ cs → AllByRecursion (IsSentOf shape (Client o t all ∷ j)) (parts_sent shape.buckets o earlier cs)
 unfolding parts_sent
 parts_from shape o t earlier [] all j some same = tt
@@ -127,7 +128,7 @@ parts_from shape o t earlier (c ∷ cs) all j some same =
 pub parts_are_messages : (shape : Shape) (o t : ℕ) (cs : List Change) (j : Journal) → 0 < shape.buckets → AllByRecursion (IsSentOf shape (Client o t cs ∷ j)) (parts_sent shape.buckets o (changes_in shape.site o j) cs)
 parts_are_messages shape o t cs j some = parts_from shape o t (changes_in shape.site o j) cs cs j some refl
 
--- each number below another
+-- a fact about every number below `n`
 pub all_below : {P : ℕ → Type 0} → (n : ℕ) → ((k : ℕ) → k < n → P k) → AllByRecursion P (numbers_below n)
 all_below zero f = tt
 all_below {P} (suc n) f = all_joined P (numbers_below n) (n ∷ []) (all_below n (λ k l. f k (omega arith))) (f n (omega arith), tt)

@@ -1,5 +1,5 @@
--- The messages of a journal, what data nodes send at a commit, and the end of a bucket in an epoch. The buckets and their
--- messages are this project's own.
+-- The messages of a journal, the messages that data nodes send at a commit, and the Done of a
+-- bucket in an epoch. The buckets and their messages are this project's own.
 use Rattle.std.specs.Prelude.{◌≡◌, ℕ, List, ◌++◌, length, map, take, Some}
 use Rattle.std.specs.List.{enumerate_from, slice_get}
 use Rattle.rb_base.specs.Bucket.{bucket_number}
@@ -16,34 +16,36 @@ abbrev pub bucket_in : Message → ℕ
 bucket_in (Part bucket epoch place change) = bucket
 bucket_in (Done bucket epoch prev count) = bucket
 
--- its epoch
+-- the epoch of a message
 abbrev pub epoch_in : Message → ℕ
 epoch_in (Part bucket epoch place change) = epoch.0
 epoch_in (Done bucket epoch prev count) = epoch.0
 
--- the end of a bucket's epoch
+-- the Done of a bucket in an epoch, which ends the bucket's part
 abbrev pub done_message : Shape → (epoch bucket : ℕ) → Journal → Message
 done_message shape epoch bucket journal =
     Done bucket (record { 0 = epoch }) (record { 0 = previous_closed epoch journal }) (length (part_of shape epoch bucket journal))
 
--- a message of a journal: the change at its place in the part of its bucket, or the end of its bucket's epoch, which is closed
+-- a message of a journal: the change at its place in the part of its bucket, or the Done of its
+-- bucket in a closed epoch
 abbrev pub IsMessageOf : Shape → Journal → Message → Type 0
 IsMessageOf shape journal (Part bucket epoch place change) = slice_get (part_of shape epoch.0 bucket journal) place ≡ Some change
 IsMessageOf shape journal (Done bucket epoch prev count) =
     IsClosed epoch.0 journal × (prev.0 ≡ previous_closed epoch.0 journal) × (count ≡ length (part_of shape epoch.0 bucket journal))
 
--- the message of a change behind these earlier ones of its epoch
+-- the message of a change, given the earlier changes of its epoch
 abbrev pub part_message : (buckets epoch : ℕ) → (earlier : List Change) → Change → Message
 part_message buckets epoch earlier change =
     let bucket = bucket_number change.table change.key buckets in
     Part bucket (record { 0 = epoch }) (length (in_bucket buckets bucket earlier)) change
 
--- what a commit of these changes sends, behind the earlier ones of its epoch: a message for each, in their order
+-- the messages that a commit of these changes sends, given the earlier changes of its epoch: one
+-- for each change, in their order
 unfoldable pub parts_sent : (buckets epoch : ℕ) → (earlier : List Change) → List Change → List Message
 parts_sent buckets epoch earlier changes =
     map (λ numbered. part_message buckets epoch (earlier ++ take numbered.0 changes) numbered.1) (enumerate_from 0 changes)
 
--- the home node of a bucket has its number
+-- the home node of a bucket, which has the bucket's number
 abbrev pub home_node : (bucket : ℕ) → ℕ
 home_node bucket = bucket
 

@@ -1,7 +1,9 @@
-//! The messages that data nodes send to the injector's event buffer, and the epochs that can be put together from them.
+//! The messages that data nodes send to the injector's event buffer, and the epochs that the buffer
+//! can assemble from them.
 //!
-//! Definitions in `specs/` and laws of them in `proofs/`. What is sent is read off the journal; what is received is a list of
-//! messages, the newest first, and every test on it is a test on that list. The types are those of the event buffer's answers.
+//! The definitions are in `specs/`, and laws about them in `proofs/`. The messages that are sent
+//! follow from the journal. The messages that are received are a list, the newest first, and every
+//! test on them is a test on that list. The types here are the results of the event buffer's calls.
 #![tactic(auto)]
 
 mod answers;

@@ -1,4 +1,4 @@
--- The columns of the tables that changes name, and how long their rows are.
+-- The columns of the tables that changes name, and the lengths of their rows.
 use Rattle.std.proofs.Common.{◌≡◌, ℕ, ◌+◌, ◌≤◌, Bool, true, false, cond, List, [], ◌∷◌, length, filter, refl, sym, ap, ◌∙◌, arith, eq-eqb, eqb-true, length-append}
 use Rattle.std.specs.Prelude.{◌==◌, ◌||◌, sum_by, Some, find}
 use Rattle.std.specs.List.{AllByRecursion, list_any}
@@ -18,7 +18,7 @@ use Rattle.rb_journal_defs.specs.Body.{is_named_in}
 use Rattle.rb_message_defs.proofs.Messages.{all_more}
 use Rattle.rb_text_defs.specs.Script.{column_bytes}
 
--- a change names this table
+-- one of these changes is of this table
 abbrev pub names : List Change → (id : ℕ) → Bool
 names changes id = list_any (λ change. change.table == id) changes
 
@@ -34,7 +34,7 @@ named_here (c ∷ changes) = (
     or_more true b there = refl
     or_more false b there = there
 
--- the columns of a table that is named are those among all tables
+-- the columns of a named table are the same among the named tables and among all tables
 pub columns_kept : (changes : List Change) (tables : List Mapped) (n : ℕ) → names changes n ≡ true → columns_of (filter (is_named_in changes) tables) n ≡ columns_of tables n
 columns_kept changes [] n named = refl
 columns_kept changes (t ∷ tables) n named = go (t.id == n) (is_named_in changes t) refl refl (columns_kept changes tables n named)
@@ -54,7 +54,7 @@ value_short Long (values.Text text) fits = absurd fits
 value_short (Text most) (values.Num n) fits = absurd fits
 value_short (Text most) (values.Text text) fits = text_bound most text fits
 
--- values that fit take no more bytes than their columns let them
+-- values that fit are at most as long as their columns allow
 pub values_short : (columns : List Column) (row : List Value) → FitsColumns columns row → length (values_bytes columns row) ≤ sum_by column_bytes columns
 values_short [] [] fits = omega arith
 values_short [] (value ∷ row) fits = absurd fits
@@ -64,7 +64,7 @@ values_short (column ∷ columns) (value ∷ row) fits =
     let most : sum_by column_bytes (column ∷ columns) ≡ sum_by column_bytes (column ∷ []) + sum_by column_bytes columns = sum_by-append column_bytes (column ∷ []) columns in
     omega (arith, bytes, most, value_short column value fits.0, values_short columns row fits.1)
 
--- where all tables have short rows, so has each
+-- if all tables have short rows, so has each of them
 pub short_of : (tables : List Mapped) (n : ℕ) → AllByRecursion (λ table. AreShort table.columns) tables → AreShort (columns_of tables n)
 short_of [] n short = record { few = omega arith; short = λ row fits. omega (arith, values_short [] row fits) }
 short_of (t ∷ tables) n short = go (t.id == n) (short_of tables n short.1)

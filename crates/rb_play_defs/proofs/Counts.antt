@@ -1,4 +1,4 @@
--- How a run's events bound what it draws and opens, and the changes of its journal.
+-- Bounds on a run's transactions, epochs and changes, given its events.
 use Rattle.std.proofs.Common.{◌≡◌, ℕ, ◌+◌, ◌*◌, ◌≤◌, Bool, true, false, List, [], ◌∷◌, length, fold, arith}
 use Rattle.std.specs.Prelude.{sum_by, if◌then◌else◌, Option, Some, None}
 use Rattle.std.specs.List.{slice_get}
@@ -19,25 +19,25 @@ use Rattle.rb_journal_defs.specs.Body.{Shape}
 use Rattle.rb_journal_defs.specs.Clock.{epoch_after}
 use Rattle.rb_journal_defs.specs.Transaction.{Refusal, refusal_of, change_over, changes_made}
 use Rattle.rb_message_defs.specs.Received.{answer_to}
-use Rattle.rb_play_defs.specs.Step.{Progress, unchanged, refused, rows_of, tx_changes, committed, commit_outcome, tx_step, closed, close_step, fed_by, delivered_message, answer_outcome, deliver_step, undelivered, after_delivery, all_delivered, delivery_of_all, deliver_all_step, injection_of, inject_step, Stepped, needed_of, takeover_step, loss_step, fail_step, restart_step, resend_step, injector_step, unless_lost, site_step}
+use Rattle.rb_play_defs.specs.Step.{Progress, unchanged, refused, rows_of, tx_changes, committed, commit_outcome, tx_step, closed, close_step, fed_by, delivered_message, answer_outcome, deliver_step, undelivered, after_delivery, all_delivered, delivery_of_all, deliver_all_step, injection_of, inject_step, StepResult, needed_of, takeover_step, loss_step, fail_step, restart_step, resend_step, injector_step, unless_lost, site_step}
 use Rattle.rb_message_defs.specs.Nodes.{node_at, successor_of, with_restart}
 use Rattle.rb_play_defs.specs.Play.{log_step, event_step, Played, played_on}
 
--- how many changes a journal has at its site
+-- the number of changes in a journal
 abbrev pub changes_in_journal : Shape → Journal → ℕ
 changes_in_journal shape journal = sum_by (λ entry. length (changes_of shape.site entry)) journal
 
--- so many events, with so many changes among them, number and open no more than that
+-- `events` events with `changes` changes add at most this much to a run
 pub record Counted (shape : Shape) (run next : Progress) (events changes : ℕ) : Type 0 where
   pub drawn : next.drawn ≤ run.drawn + events
   pub opened : next.opened ≤ run.opened + 4294967296 * events
   pub changes_are : changes_in_journal shape next.journal ≤ changes_in_journal shape run.journal + changes
 
--- a run that stays is within any counts
+-- a run that is unchanged is within any counts
 counted_self : (shape : Shape) (run : Progress) (events changes : ℕ) → Counted shape run run events changes
 counted_self shape run events changes = record { drawn = omega arith; opened = omega arith; changes_are = omega arith }
 
--- one part of a run behind another: their counts add up
+-- the counts of two parts of a run add up
 counted_then : (shape : Shape) (a b c : Progress) (events more changes others : ℕ) → Counted shape a b events changes → Counted shape b c more others → Counted shape a c (events + more) (changes + others)
 counted_then shape a b c events more changes others first second = record {
   drawn = let h = first.drawn in let g = second.drawn in omega arith;
@@ -45,16 +45,16 @@ counted_then shape a b c events more changes others first second = record {
   changes_are = let h = first.changes_are in let g = second.changes_are in omega arith;
 }
 
--- a journal with an entry more
+-- a journal with one more entry
 one_more : (shape : Shape) (entry : Entry) (journal : Journal) → changes_in_journal shape (entry ∷ journal) ≡ length (changes_of shape.site entry) + changes_in_journal shape journal
 one_more shape entry journal = sum_by-cons (λ (e : Entry). length (changes_of shape.site e)) entry journal
 
--- a change for each operation
+-- a transaction has one change for each operation
 as_many_changes : (rows : ℕ → ℕ → Option Row) (author transid : ℕ) (operations : List ClientOp) → length (changes_made rows author transid operations) ≡ length operations
 unfolding changes_made
 as_many_changes rows author transid operations = length-map operations (λ operation. change_over author transid (rows operation.table operation.key) operation)
 
--- a transaction that is accepted
+-- an accepted transaction
 counted_commit : (shape : Shape) (operations : List ClientOp) (run : Progress) → Counted shape run (committed shape operations run) 1 (length operations)
 counted_commit shape operations run = record {
   drawn = omega arith;
@@ -71,7 +71,7 @@ counted_tx shape operations run = go (refusal_of (rows_of shape run) operations)
     go None = counted_commit shape operations run
     go (Some refusal) = counted_self shape run 1 (length operations)
 
--- the next epoch is no more than 2^32 above the one that closes
+-- the next epoch is at most 2^32 above the one that closes
 epoch_near : (gci : Bool) (epoch : ℕ) → epoch_after gci epoch ≤ epoch + 4294967296
 epoch_near false epoch = omega arith
 epoch_near true epoch = omega arith
@@ -103,23 +103,23 @@ counted_delivery : (shape : Shape) (run : Progress) → Counted shape run (deliv
 unfolding delivery_of_all
 counted_delivery shape run = counted_all shape (undelivered run) run
 
--- the injector's turn
+-- an `inject` event
 counted_injection : (shape : Shape) (run : Progress) → Counted shape run (injection_of shape run).run 0 0
 unfolding injection_of
 counted_injection shape run = record { drawn = omega arith; opened = omega arith; changes_are = omega arith }
 
--- `log`: the delivery of all messages, and the injector's turn
+-- `log`: the delivery of all messages, and an `inject` event
 counted_log : (shape : Shape) (run : Progress) → Counted shape run (log_step shape run).run 0 0
 unfolding log_step
 counted_log shape run =
     let delivered = (delivery_of_all shape run).run in
     counted_then shape run delivered (injection_of shape delivered).run 0 0 0 0 (counted_delivery shape run) (counted_injection shape delivered)
 
--- what is within no event is within one
+-- counts of no event are within those of one event
 as_one : (shape : Shape) (run next : Progress) → Counted shape run next 0 0 → Counted shape run next 1 0
 as_one shape run next none = counted_then shape run next next 0 1 0 0 none (counted_self shape next 1 0)
 
--- a node that fails, or starts again, and a resend
+-- the failure or the restart of a node, and a resend
 counted_fail : (shape : Shape) (node : ℕ) (run : Progress) → Counted shape run (fail_step shape node run).run 0 0
 unfolding fail_step
 counted_fail shape node run = go (node_at run.nodes node).up (successor_of run.nodes (needed_of shape run) node)
@@ -141,13 +141,13 @@ counted_resend : (shape : Shape) (run : Progress) → Counted shape run (resend_
 unfolding resend_step
 counted_resend shape run = record { drawn = omega arith; opened = omega arith; changes_are = omega arith }
 
--- an injector that stops
+-- the restart of the injector
 counted_injector : (shape : Shape) (run : Progress) → Counted shape run (injector_step shape run).run 0 0
 unfolding injector_step
 counted_injector shape run = record { drawn = omega arith; opened = omega arith; changes_are = omega arith }
 
--- an event that a lost site refuses
-counted_unless : (shape : Shape) (run : Progress) (step : Stepped) (changes : ℕ) → Counted shape run step.run 1 changes → Counted shape run (unless_lost run step).run 1 changes
+-- an event that a site with a lost group refuses
+counted_unless : (shape : Shape) (run : Progress) (step : StepResult) (changes : ℕ) → Counted shape run step.run 1 changes → Counted shape run (unless_lost run step).run 1 changes
 counted_unless shape run step changes counts = go run.lost
   where
     go : (lost : Option (ℕ × ℕ)) → Counted shape run (option_map_or (λ loss. unchanged run (outcomes.SiteLost loss.0 (record { 0 = loss.1 }))) lost step).run 1 changes
@@ -169,7 +169,7 @@ counted_event shape run (events.Resend site) = counted_unless shape run (resend_
 counted_event shape run (events.Injector site) = as_one shape run (injector_step shape run).run (counted_injector shape run)
 counted_event shape run event = counted_self shape run 1 0
 
--- these events played: as many events, with their changes
+-- a list of events with its changes
 pub counted : (shape : Shape) (played : Played) (lined : List LinedEvent) → Counted shape played.run (fold (played_on shape) played lined).run (length lined) (sum_by (λ l. changes_in_event l.event) lined)
 counted shape played [] = counted_self shape played.run 0 0
 counted shape played (event ∷ later) =

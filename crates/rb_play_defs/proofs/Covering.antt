@@ -1,4 +1,5 @@
--- Without a loss every bucket's owner covers: it is up, and has buffered everything that is not acknowledged.
+-- If no group is lost, every bucket's owner covers: it is up, and has buffered everything that is
+-- not acknowledged.
 use Rattle.std.proofs.Common.{◌≡◌, ℕ, zero, suc, ◌+◌, ◌*◌, ◌<◌, ◌≤◌, Bool, true, false, cond, List, [], ◌∷◌, ◌++◌, length, map, filter, take, fold, refl, sym, ap, subst, ◌∙◌, inl, inr, arith}
 use Rattle.std.specs.Prelude.{◌⊎◌, ◌==◌, ◌&&◌, nat_le, nat_lt, not, if◌then◌else◌, Option, Some, None, unwrap_or}
 use Rattle.std.specs.List.{AllByRecursion, enumerate_from, find, flat_map, last_or, slice_get}
@@ -24,17 +25,17 @@ use Rattle.rb_journal_defs.specs.Order.{InOrder, IsClosed}
 use Rattle.rb_journal_defs.proofs.Order.{Rises, closed_rise, opened_above, upto, Among, closed_among}
 use Rattle.rb_message_defs.specs.Message.{home_node}
 use Rattle.rb_message_defs.proofs.Messages.{all_joined, get_end, get_left}
-use Rattle.rb_message_defs.specs.Nodes.{Node, node_from, down, Nodes, node_at, owner_in, needed_epoch, covers, others_behind, successor_of, with_node, with_failure, with_restart, with_owner, returns, with_returns, numbers_in, group_of, buffered, messages_of, part_messages, unacknowledged}
-use Rattle.rb_play_defs.specs.Step.{Progress, nodes_at_first, beginning, acknowledged_epoch, needed_of, last_epoch, written_bodies, worth_logging, unchanged, refused, rows_of, tx_changes, committed, commit_outcome, tx_step, only_closed, closed, close_step, fed_by, delivered_message, answer_outcome, deliver_step, undelivered, after_delivery, all_delivered, delivery_of_all, deliver_all_step, takeover_step, loss_step, fail_step, restart_step, resend_step, injector_step, unless_lost, Stepped, takeable, with_taken, injected, injection_of, inject_step, site_step}
+use Rattle.rb_message_defs.specs.Nodes.{Node, node_from, down, Nodes, node_at, owner_in, needed_epoch, covers, others_after, successor_of, with_node, with_failure, with_restart, with_owner, returns, with_returns, numbers_in, group_of, buffered, messages_of, part_messages, unacknowledged}
+use Rattle.rb_play_defs.specs.Step.{Progress, nodes_at_first, beginning, acknowledged_epoch, needed_of, last_epoch, written_bodies, worth_logging, unchanged, refused, rows_of, tx_changes, committed, commit_outcome, tx_step, only_closed, closed, close_step, fed_by, delivered_message, answer_outcome, deliver_step, undelivered, after_delivery, all_delivered, delivery_of_all, deliver_all_step, takeover_step, loss_step, fail_step, restart_step, resend_step, injector_step, unless_lost, StepResult, takeable, with_taken, injected, injection_of, inject_step, site_step}
 use Rattle.rb_play_defs.specs.Play.{shape_of, log_step, event_step, Played, played_on, not_played, play_of}
 use Rattle.rb_play_defs.specs.Sound.{IsSound, CanSendAgain}
 use Rattle.rb_play_defs.proofs.Sounds.{closed_all_below, length_numbers, sound_beginning}
 use Rattle.rb_play_defs.proofs.Restarts.{acknowledged_is}
-use Rattle.rb_play_defs.proofs.Takes.{front_of, sound_taken, takeable_rest, injected_more, injected_end, written_more}
+use Rattle.rb_play_defs.proofs.Takes.{prefix_of, sound_taken, takeable_rest, injected_more, injected_end, written_more}
 use Rattle.rb_play_defs.proofs.Fits.{all_filtered}
 use Rattle.rb_play_defs.proofs.Grows.{written_within, goes, goes_delivery, goes_on}
 
--- what holds of 0 and of each number of a list holds of its last one, or of 0
+-- a fact about 0 and each number of a list holds for the last number, or for 0
 last_in : (P : ℕ → Type 0) (xs : List ℕ) → P 0 → AllByRecursion P xs → P (unwrap_or (last_or None xs) 0)
 last_in P [] none all = none
 last_in P (x ∷ xs) none all = from x xs all.0 all.1
@@ -49,7 +50,7 @@ acknowledged_below shape run sound =
     (last_in (λ e. e < run.opened) (worth_logging shape run.journal (upto run.last run.journal)) (opened_above run.opened run.journal sound.order)
     (all_filtered (λ e. e < run.opened) _ (upto run.last run.journal) (all_filtered (λ e. e < run.opened) _ (closed_epochs run.journal) (closed_all_below run.opened run.journal sound.order))))
 
--- the needed epoch stays at a close
+-- a close leaves the needed epoch unchanged
 pub needed_at_close : (acknowledged opened next : ℕ) (j : Journal) → acknowledged < opened → needed_epoch acknowledged next (Closed opened ∷ j) ≡ needed_epoch acknowledged opened j
 needed_at_close acknowledged opened next j below = ap (λ o. unwrap_or o next) (find-append (nat_lt acknowledged) (closed_epochs j) (opened ∷ [])) ∙ go (find (nat_lt acknowledged) (closed_epochs j))
   where
@@ -57,7 +58,8 @@ needed_at_close acknowledged opened next j below = ap (λ o. unwrap_or o next) (
     go None = ap (λ (b : Bool). unwrap_or (if b then Some opened else None) next) (lt-ltb acknowledged opened below)
     go (Some e) = refl
 
--- the first of rising numbers that passes, or what is above all, is above what is below all
+-- a number below all numbers of a list and below `top` is below the number that a search finds, or
+-- `top`
 least_found : (x top : ℕ) (test : ℕ → Bool) (ys : List ℕ) → x < top → AllByRecursion (λ y. x < y) ys → x ≤ unwrap_or (find test ys) top
 least_found x top test [] below all = omega arith
 least_found x top test (y ∷ ys) below all = go (test y) (least_found x top test ys below all.1)
@@ -66,7 +68,7 @@ least_found x top test (y ∷ ys) below all = go (test y) (least_found x top tes
     go true rest = let l = all.0 in omega arith
     go false rest = rest
 
--- and rises with the acknowledged one
+-- the needed epoch rises with the acknowledged one
 rises_in : (a b top : ℕ) (xs : List ℕ) → a ≤ b → Rises top xs → unwrap_or (find (nat_lt a) xs) top ≤ unwrap_or (find (nat_lt b) xs) top
 rises_in a b top [] more rises = omega arith
 rises_in a b top (x ∷ xs) more rises = go (nat_lt a x) (nat_lt b x) refl refl (least_found x top (nat_lt b) xs rises.1 rises.2) (rises_in a b top xs more rises.3)
@@ -81,7 +83,7 @@ rises_in a b top (x ∷ xs) more rises = go (nat_lt a x) (nat_lt b x) refl refl 
 pub needed_rises : (a b opened : ℕ) (j : Journal) → a ≤ b → InOrder opened j → needed_epoch a opened j ≤ needed_epoch b opened j
 needed_rises a b opened j more order = rises_in a b opened (closed_epochs j) more (closed_rise opened j order)
 
--- a number among those above another is above it
+-- each number of a list is above a number that is below all of them
 among_above : (x e : ℕ) (ys : List ℕ) → AllByRecursion (λ y. x < y) ys → Among e ys → x < e
 among_above x e [] all there = absurd there
 among_above x e (y ∷ ys) all (inl is) = let l = all.0 in omega arith
@@ -101,7 +103,7 @@ least_in acknowledged top e (x ∷ xs) rises among above = go (nat_lt acknowledg
 pub needed_least : (acknowledged opened e : ℕ) (j : Journal) → InOrder opened j → IsClosed e j → acknowledged < e → needed_epoch acknowledged opened j ≤ e
 needed_least acknowledged opened e j order closed above = least_in acknowledged opened e (closed_epochs j) (closed_rise opened j order) (closed_among e j closed) above
 
--- a node that covers goes on to cover
+-- a node that covers still covers when the needed epoch rises
 covers_more : (a b : ℕ) (node : Node) → a ≤ b → covers a node ≡ true → covers b node ≡ true
 covers_more a b node more is =
     let both = and_parts node.up (nat_le node.since a) is in
@@ -112,13 +114,13 @@ covers_more a b node more is =
     and_true true false is also = also
     and_true false y is also = is
 
--- an item of a list whose items are changed by their numbers
+-- an item of a list whose items are mapped with their places
 pub numbered_get : {X : Type 0} (f : ℕ × X → X) (n k : ℕ) (xs : List X) → slice_get (map f (enumerate_from n xs)) k ≡ option_map (λ x. f (n + k, x)) (slice_get xs k)
 numbered_get f n k [] = refl
 numbered_get f n zero (x ∷ xs) = ap (λ (m : ℕ). Some (f (m, x))) (let same : n ≡ n + zero = omega arith in same)
 numbered_get f n (suc k) (x ∷ xs) = numbered_get f (n + 1) k xs ∙ ap (λ (m : ℕ). option_map (λ x. f (m, x)) (slice_get xs k)) (let same : n + 1 + k ≡ n + suc k = omega arith in same)
 
--- another node than the one that changes
+-- a change of one node leaves the other nodes unchanged
 other_node : (number other : ℕ) (node : Node) (site : Nodes) → (other ≡ number → ⊥) → node_at (with_node number node site) other ≡ node_at site other
 other_node number other node site differs =
     ap (λ (o : Option Node). unwrap_or o down) (numbered_get (λ numbered. if numbered.0 == number then node else numbered.1) 0 other site.nodes) ∙ go (slice_get site.nodes other)
@@ -127,15 +129,15 @@ other_node number other node site differs =
     go None = refl
     go (Some x) = ap (λ (b : Bool). if b then node else x) (ne_eqb (0 + other) number (λ same. differs (let s = same in omega arith)))
 
--- each bucket's owner covers
+-- the owner of each bucket covers
 abbrev pub AllCovered : (buckets needed : ℕ) → Nodes → Type 0
 AllCovered buckets needed site = (bucket : ℕ) → bucket < buckets → covers needed (node_at site (owner_in site bucket)) ≡ true
 
--- at a higher needed epoch too
+-- every owner still covers when the needed epoch rises
 pub covered_more : (buckets a b : ℕ) (site : Nodes) → a ≤ b → AllCovered buckets a site → AllCovered buckets b site
 covered_more buckets a b site more all bucket within = covers_more a b (node_at site (owner_in site bucket)) more (all bucket within)
 
--- behind a restart of a node that was down
+-- every owner still covers after the restart of a node that was down
 pub covered_restart : (buckets needed number opened : ℕ) (site : Nodes) → (node_at site number).up ≡ false → AllCovered buckets needed site → AllCovered buckets needed (with_restart number opened site)
 covered_restart buckets needed number opened site is_down all bucket within =
     ap (covers needed) (other_node number (owner_in site bucket) _ site (λ same. not_both same)) ∙ all bucket within
@@ -145,7 +147,7 @@ covered_restart buckets needed number opened site is_down all bucket within =
         let up : (node_at site number).up ≡ true = ap (λ (k : ℕ). (node_at site k).up) (sym same) ∙ (and_parts (node_at site (owner_in site bucket)).up _ (all bucket within)).0 in
         let both : false ≡ true = sym is_down ∙ up in absurd cc
 
--- what a search found
+-- an item that a search finds has the facts of all items and passes the test
 pub found_in : (P : ℕ → Type 0) (test : ℕ → Bool) (x : ℕ) (xs : List ℕ) → AllByRecursion P xs → find test xs ≡ Some x → P x × (test x ≡ true)
 found_in P test x [] all is = absurd cc
 found_in P test x (y ∷ xs) all is = go (test y) refl is (λ later. found_in P test x xs all.1 later)
@@ -165,7 +167,7 @@ passing P test (x ∷ xs) f = go (test x) refl (passing P test xs f)
 -- a node's successor is another node, and covers
 pub successor_is : (site : Nodes) (needed node successor : ℕ) → successor_of site needed node ≡ Some successor → (successor ≡ node → ⊥) × (covers needed (node_at site successor) ≡ true)
 successor_is site needed node successor is =
-    found_in (λ other. other ≡ node → ⊥) (λ other. covers needed (node_at site other)) successor (others_behind site node)
+    found_in (λ other. other ≡ node → ⊥) (λ other. covers needed (node_at site other)) successor (others_after site node)
     (all_joined (λ other. other ≡ node → ⊥) (filter (nat_lt node) (numbers_in site (group_of site node))) (filter (λ other. nat_lt other node) (numbers_in site (group_of site node)))
     (passing (λ other. other ≡ node → ⊥) (nat_lt node) (numbers_in site (group_of site node)) (λ other passes same. absurd (omega (arith, ltb-true node other passes))))
     (passing (λ other. other ≡ node → ⊥) (λ other. nat_lt other node) (numbers_in site (group_of site node)) (λ other passes same. absurd (omega (arith, ltb-true other node passes))))) is
@@ -180,7 +182,7 @@ get_within k [] within = absurd (omega arith)
 get_within zero (x ∷ xs) within = (x, refl)
 get_within (suc k) (x ∷ xs) within = get_within k xs (omega arith)
 
--- the owner behind a takeover
+-- the owner of a bucket covers after a takeover
 taken : (needed node successor owner : ℕ) (failed : Node) (site : Nodes) → covers needed (node_at (with_node node failed site) successor) ≡ true → ((owner ≡ node → ⊥) → covers needed (node_at (with_node node failed site) owner) ≡ true)
     → covers needed (node_at (with_node node failed site) (if owner == node then successor else owner)) ≡ true
 taken needed node successor owner failed site new old = go (owner == node) refl
@@ -189,7 +191,7 @@ taken needed node successor owner failed site new old = go (owner == node) refl
     go true is = new
     go false is = old (λ same. let no : false ≡ true = sym is ∙ eq-eqb owner node same in absurd cc)
 
--- behind a takeover
+-- every owner covers after a takeover
 pub covered_takeover : (buckets needed node successor sent : ℕ) (site : Nodes) → length site.owners ≡ buckets → successor_of site needed node ≡ Some successor → AllCovered buckets needed site → AllCovered buckets needed (with_owner node successor (with_failure node sent site))
 covered_takeover buckets needed node successor sent site count is all bucket within =
     let there = get_within bucket site.owners (omega (arith, count)) in
@@ -202,7 +204,7 @@ covered_takeover buckets needed node successor sent site count is all bucket wit
     ∙ taken needed node successor there.0 failed site (ap (covers needed) (other_node node successor failed site own.0) ∙ own.1)
     (λ differs. ap (covers needed) (other_node node there.0 failed site differs) ∙ ap (λ (k : ℕ). covers needed (node_at site k)) (sym before) ∙ all bucket within)
 
--- the owner behind a close
+-- the owner of a bucket covers after a close
 returned : (needed bucket owner : ℕ) (site : Nodes) → covers needed (node_at site owner) ≡ true → covers needed (node_at site (if returns site needed bucket then home_node bucket else owner)) ≡ true
 returned needed bucket owner site covered = go (returns site needed bucket) refl
   where
@@ -210,7 +212,7 @@ returned needed bucket owner site covered = go (returns site needed bucket) refl
     go true is = (and_parts (not (owner_in site bucket == home_node bucket)) (covers needed (node_at site (home_node bucket))) is).1
     go false is = covered
 
--- behind the returns of a close
+-- every owner covers after a close, with the returns of buckets
 pub covered_returns : (buckets needed : ℕ) (site : Nodes) → length site.owners ≡ buckets → AllCovered buckets needed site → AllCovered buckets needed (with_returns needed site)
 covered_returns buckets needed site count all bucket within =
     let there = get_within bucket site.owners (omega (arith, count)) in
@@ -221,11 +223,11 @@ covered_returns buckets needed site count all bucket within =
     ∙ ap (option_map (λ owner. if returns site needed bucket then home_node bucket else owner)) there.1) in
     ap (λ (k : ℕ). covers needed (node_at site k)) now ∙ returned needed bucket there.0 site (ap (λ (k : ℕ). covers needed (node_at site k)) (sym before) ∙ all bucket within)
 
--- without a loss each owner covers
+-- if no group is lost, every owner covers
 abbrev pub IsCovered : Shape → Progress → Type 0
 IsCovered shape run = run.lost ≡ None → AllCovered shape.buckets (needed_of shape run) run.nodes
 
--- what is written stays at a commit and at a close
+-- a commit and a close leave the logged bodies unchanged
 written_at_commit : (shape : Shape) (operations : List ClientOp) (run : Progress) → IsSound shape run → written_bodies shape (committed shape operations run) ≡ written_bodies shape run
 written_at_commit shape operations run sound =
     ap (take run.written) (completed_client shape run.opened (run.drawn + 1) (tx_changes shape operations run) run.journal (closed_all_below run.opened run.journal sound.order))
@@ -235,7 +237,7 @@ written_at_close shape gci run sound =
     ap (take run.written) (completed_closed shape run.opened run.journal)
     ∙ take-append-le run.written (completed_bodies shape run.journal) (if_logged (body_of shape run.opened run.journal)) (written_within shape run sound)
 
--- each number below another stands at its place
+-- each number below `n` is at its place
 pub number_at : (n k : ℕ) → k < n → slice_get (numbers_below n) k ≡ Some k
 number_at zero k within = absurd (omega arith)
 number_at (suc n) k within = go (k == n) refl (λ below. number_at n k below)
@@ -247,7 +249,7 @@ number_at (suc n) k within = go (k == n) refl (λ below. number_at n k below)
         ap (slice_get (numbers_below n ++ n ∷ [])) (sym count) ∙ get_end (numbers_below n) n [] ∙ ap (λ (m : ℕ). Some m) (sym same)
     go false is below = get_left (numbers_below n) (n ∷ []) k k (below (let differs = eqb-false k n is in omega arith))
 
--- the beginning
+-- a new site
 pub covered_beginning : (shape : Shape) (groups replicas : ℕ) → shape.buckets ≡ groups * replicas → IsCovered shape (beginning groups replicas)
 covered_beginning shape groups replicas count none bucket within =
     let below : bucket < groups * replicas = omega (arith, count) in
@@ -278,10 +280,10 @@ covered_close shape gci run sound covered none =
     (subst (λ (n : ℕ). AllCovered shape.buckets (needed_of shape run) (with_returns n run.nodes)) (sym needed)
     (covered_returns shape.buckets (needed_of shape run) run.nodes sound.nodes.owners (covered none)))
 
--- an epoch that is taken is above the last one
+-- an epoch that is taken is above the last taken one
 pub taken_above : (shape : Shape) (run : Progress) (e : ℕ) (rest : List ℕ) → takeable shape run ≡ e ∷ rest → run.last < e
 taken_above shape run e rest same =
-    let front = front_of shape run e rest same in
+    let front = prefix_of shape run e rest same in
     ltb-true run.last e (subst (AllByRecursion (λ x. nat_lt run.last x ≡ true)) front.1 (passing (λ x. nat_lt run.last x ≡ true) (nat_lt run.last) (closed_epochs run.journal) (λ x passes. passes))).0
 
 pub acknowledged_within : (shape : Shape) (run : Progress) → IsSound shape run → acknowledged_epoch shape run ≤ run.last
@@ -298,11 +300,11 @@ body_epoch : (shape : Shape) (e : ℕ) (j : Journal) → (body_of shape e j).epo
 unfolding body_of
 body_epoch shape e j = refl
 
--- the last epoch of bodies with one more
+-- the last epoch of a list of bodies with one more
 last_more : (bodies : List EpochBody) (body : EpochBody) → last_epoch (bodies ++ body ∷ []) ≡ body.epoch.0
 last_more bodies body = ap (λ (es : List ℕ). unwrap_or (last_or None es) 0) (map-append (λ (b : EpochBody). b.epoch.0) bodies (body ∷ [])) ∙ ap (λ (o : Option ℕ). unwrap_or o 0) (last_end None (map (λ (b : EpochBody). b.epoch.0) bodies) body.epoch.0)
 
--- an epoch that is taken leaves the acknowledged one, or is it
+-- taking an epoch leaves the acknowledged epoch unchanged or raises it
 pub acknowledged_rises : (shape : Shape) (run : Progress) (e : ℕ) (rest : List ℕ) → IsSound shape run → takeable shape run ≡ e ∷ rest → acknowledged_epoch shape run ≤ acknowledged_epoch shape (with_taken shape run e)
 acknowledged_rises shape run e rest sound same =
     subst (λ (bodies : List EpochBody). acknowledged_epoch shape run ≤ last_epoch bodies) (sym (written_more shape run e rest sound same)) (rises (has_something_to_log (body_of shape e run.journal)))
@@ -313,13 +315,13 @@ acknowledged_rises shape run e rest sound same =
         omega (arith, acknowledged_within shape run sound, taken_above shape run e rest same)
     rises false = subst (λ (bodies : List EpochBody). acknowledged_epoch shape run ≤ last_epoch bodies) (sym (append-nil (written_bodies shape run))) (omega arith)
 
--- an epoch that is taken
+-- a taken epoch
 pub covered_taken : (shape : Shape) (run : Progress) (e : ℕ) (rest : List ℕ) → IsSound shape run → takeable shape run ≡ e ∷ rest → IsCovered shape run → IsCovered shape (with_taken shape run e)
 covered_taken shape run e rest sound same covered none =
     covered_more shape.buckets (needed_of shape run) (needed_of shape (with_taken shape run e)) run.nodes
     (needed_rises (acknowledged_epoch shape run) (acknowledged_epoch shape (with_taken shape run e)) run.opened run.journal (acknowledged_rises shape run e rest sound same) sound.order) (covered none)
 
--- the injector's turn
+-- an `inject` event
 covered_injected : (shape : Shape) (run : Progress) (es : List ℕ) → IsSound shape run → takeable shape run ≡ es → IsCovered shape run → IsCovered shape (injected shape run)
 covered_injected shape run [] sound same covered = subst (IsCovered shape) (sym (injected_end shape run same)) covered
 covered_injected shape run (e ∷ rest) sound same covered =
@@ -361,7 +363,7 @@ covered_tx shape operations run sound covered = go (refusal_of (rows_of shape ru
     go None = covered_commit shape operations run sound covered
     go (Some refusal) = covered
 
--- a node that fails, or starts again, and a resend
+-- the failure or the restart of a node, and a resend
 covered_fail : (shape : Shape) (node : ℕ) (run : Progress) → IsSound shape run → IsCovered shape run → IsCovered shape (fail_step shape node run).run
 unfolding fail_step
 covered_fail shape node run sound covered = go (node_at run.nodes node).up (successor_of run.nodes (needed_of shape run) node) refl
@@ -387,7 +389,7 @@ covered_injector : (shape : Shape) (run : Progress) → IsCovered shape run → 
 unfolding injector_step
 covered_injector shape run covered = covered
 
-covered_unless : (shape : Shape) (run : Progress) (step : Stepped) → IsCovered shape run → IsCovered shape step.run → IsCovered shape (unless_lost run step).run
+covered_unless : (shape : Shape) (run : Progress) (step : StepResult) → IsCovered shape run → IsCovered shape step.run → IsCovered shape (unless_lost run step).run
 covered_unless shape run step covered next = go run.lost
   where
     go : (lost : Option (ℕ × ℕ)) → IsCovered shape (option_map_or (λ loss. unchanged run (outcomes.SiteLost loss.0 (record { 0 = loss.1 }))) lost step).run
@@ -414,12 +416,12 @@ covered_on shape played [] sound covered = covered
 covered_on shape played (event ∷ later) sound covered =
     covered_on shape (played_on shape played event) later (goes shape played.run event.event sound).sound (covered_event shape played.run event.event sound covered)
 
--- what holds of each number among some
+-- a fact about each number of a list
 all_among : (P : ℕ → Type 0) (xs : List ℕ) → ((x : ℕ) → Among x xs → P x) → AllByRecursion P xs
 all_among P [] each = tt
 all_among P (x ∷ xs) each = (each x (inl refl), all_among P xs (λ y there. each y (inr there)))
 
--- numbers above one that are all above another
+-- if all numbers above `a` are at least `since`, the two tests together keep the numbers above `a`
 both_tests : (since a : ℕ) (xs : List ℕ) → AllByRecursion (λ e. a < e → since ≤ e) xs → filter (λ e. nat_le since e && nat_lt a e) xs ≡ filter (nat_lt a) xs
 both_tests since a [] all = refl
 both_tests since a (x ∷ xs) all = go (nat_le since x) (nat_lt a x) refl refl (both_tests since a xs all.1)
@@ -431,7 +433,7 @@ both_tests since a (x ∷ xs) all = go (nat_le since x) (nat_lt a x) refl refl (
     go false true low above rest = absurd (let from = all.0 (ltb-true a x above) in let no : false ≡ true = sym low ∙ le-leb since x from in cc)
     go false false low above rest = rest
 
--- the needed epoch is a closed one or the open one
+-- the needed epoch is at most the open one
 needed_within : (a top : ℕ) (xs : List ℕ) → Rises top xs → unwrap_or (find (nat_lt a) xs) top ≤ top
 needed_within a top [] rises = omega arith
 needed_within a top (x ∷ xs) rises = go (nat_lt a x) (needed_within a top xs rises.3)
@@ -440,7 +442,8 @@ needed_within a top (x ∷ xs) rises = go (nat_lt a x) (needed_within a top xs r
     go true rest = let l = rises.1 in omega arith
     go false rest = rest
 
--- a node that buffers since the needed epoch or longer has all that is not acknowledged
+-- a node that buffers from the needed epoch on, or from an earlier one, holds everything that is
+-- not acknowledged
 has_unacknowledged : (shape : Shape) (since acknowledged opened bucket : ℕ) (j : Journal) → InOrder opened j → since ≤ needed_epoch acknowledged opened j → buffered shape since acknowledged opened j bucket ≡ unacknowledged shape acknowledged opened j bucket
 has_unacknowledged shape since acknowledged opened bucket j order low =
     let closed = closed_epochs j in
@@ -450,7 +453,8 @@ has_unacknowledged shape since acknowledged opened bucket j order low =
     ap (λ (es : List ℕ). flat_map (messages_of shape bucket j) es ++ (if nat_le since opened then part_messages shape opened bucket j else [])) (both_tests since acknowledged closed least)
     ∙ ap (λ (b : Bool). flat_map (messages_of shape bucket j) (filter (nat_lt acknowledged) closed) ++ (if b then part_messages shape opened bucket j else [])) (le-leb since opened (omega arith))
 
--- over every list of events without a loss: the owner of a bucket is up, and has buffered every closed epoch that is not acknowledged
+-- in every run that lost no group, a bucket's owner is up and has buffered every closed epoch that
+-- is not acknowledged
 pub owners_can_send_again : (setup : Setup) (lined : List LinedEvent) → 0 < setup.a.groups * setup.a.replicas → 0 < setup.a.replicas → (play_of setup lined).run.lost ≡ None →
     (bucket epoch : ℕ) → bucket < setup.a.groups * setup.a.replicas → IsClosed epoch (play_of setup lined).run.journal → acknowledged_epoch (shape_of setup) (play_of setup lined).run < epoch →
     CanSendAgain (shape_of setup) (play_of setup lined).run bucket epoch

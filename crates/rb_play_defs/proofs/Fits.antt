@@ -1,4 +1,4 @@
--- What a site does fits its tables.
+-- All changes and rows of a site fit its tables.
 use Rattle.std.proofs.Common.{◌≡◌, ℕ, ◌+◌, Bool, true, false, cond, List, [], ◌∷◌, map, filter, take, refl, sym, subst, ◌∙◌, eqb-true}
 use Rattle.std.specs.Prelude.{◌==◌, ◌&&◌, Option, Some, None, IfSome, unwrap_or, if◌then◌else◌}
 use Rattle.std.specs.List.{AllByRecursion, flat_map, filter_map, cons_option, list_any, enumerate_from, last_or}
@@ -16,7 +16,7 @@ use Rattle.rb_log_defs.specs.Fits.{IsImage, FitsKind}
 use Rattle.rb_journal_defs.specs.Journal.{Journal, changes_of, epoch_of, names_key, of_key, row_after_kind, row_after, row_left, row_at}
 use Rattle.rb_journal_defs.specs.Body.{Shape, changes_in, part_of, numbers_below, is_logged, body_changes}
 use Rattle.rb_journal_defs.specs.Table.{key_in}
-use Rattle.rb_journal_defs.specs.Transaction.{Refusal, RowTwice, NoKey, is_same_row, refused_over, refusal_behind, first_of, refusal_of, kind_over, before_image, after_image, change_over, changes_made}
+use Rattle.rb_journal_defs.specs.Transaction.{Refusal, RowTwice, NoKey, is_same_row, refused_over, refusal_after, first_of, refusal_of, kind_over, before_image, after_image, change_over, changes_made}
 use Rattle.rb_message_defs.proofs.Messages.{all_joined}
 use Rattle.rb_play_defs.specs.Fitting.{IsRowOf, FitsTables, JournalFits, PutsRow, OperationFits}
 
@@ -32,7 +32,7 @@ all_flat : {X Y : Type 0} → (P : Y → Type 0) (f : X → List Y) (xs : List X
 all_flat P f [] all = tt
 all_flat P f (x ∷ xs) all = all_joined P (f x) (flat_map f xs) (all x) (all_flat P f xs all)
 
--- the changes of an epoch fit
+-- the changes of an epoch fit their tables
 pub epoch_fits : (shape : Shape) (e : ℕ) (j : Journal) → JournalFits shape j → AllByRecursion (FitsTables shape.tables) (changes_in shape.site e j)
 epoch_fits shape e [] fits = tt
 epoch_fits shape e (x ∷ j) fits =
@@ -42,7 +42,7 @@ epoch_fits shape e (x ∷ j) fits =
     go true = fits.0
     go false = tt
 
--- the changes of a body fit
+-- the changes of a body fit their tables
 pub body_fits : (shape : Shape) (e : ℕ) (j : Journal) → JournalFits shape j → AllByRecursion (FitsTables shape.tables) (body_changes shape e j)
 body_fits shape e j fits =
     all_filtered (FitsTables shape.tables) (is_logged shape.site) (flat_map (λ bucket. part_of shape e bucket j) (numbers_below shape.buckets))
@@ -103,19 +103,19 @@ row_fits shape table key (x ∷ j) fits =
     subst (λ (r : Option Row). IfSome r (IsRowOf (columns_of shape.tables table) key)) (sym (row_left_is (of_key table key (changes_of shape.site x)) (row_at shape.site table key j)))
     (left_fits shape.tables table key (changes_of shape.site x) (row_at shape.site table key j) fits.0 (row_fits shape table key j fits.1))
 
--- a transaction that is not refused refuses no operation
-not_refused : (rows : ℕ → ℕ → Option Row) (all : List ClientOp) (from : ℕ) (later : List ClientOp) → first_of (filter_map (λ numbered. refusal_behind rows (take numbered.0 all) numbered.0 numbered.1) (enumerate_from from later)) ≡ None → AllByRecursion (λ operation. (n : ℕ) × (refused_over n operation.op (rows operation.table operation.key) ≡ None)) later
+-- if a transaction is not refused, none of its operations is
+not_refused : (rows : ℕ → ℕ → Option Row) (all : List ClientOp) (from : ℕ) (later : List ClientOp) → first_of (filter_map (λ numbered. refusal_after rows (take numbered.0 all) numbered.0 numbered.1) (enumerate_from from later)) ≡ None → AllByRecursion (λ operation. (n : ℕ) × (refused_over n operation.op (rows operation.table operation.key) ≡ None)) later
 not_refused rows all from [] none = tt
-not_refused rows all from (operation ∷ later) none = go (refusal_behind rows (take from all) from operation) refl none (λ more. not_refused rows all (from + 1) later more)
+not_refused rows all from (operation ∷ later) none = go (refusal_after rows (take from all) from operation) refl none (λ more. not_refused rows all (from + 1) later more)
   where
     rest : List Refusal
-    rest = filter_map (λ (numbered : ℕ × ClientOp). refusal_behind rows (take numbered.0 all) numbered.0 numbered.1) (enumerate_from (from + 1) later)
+    rest = filter_map (λ (numbered : ℕ × ClientOp). refusal_after rows (take numbered.0 all) numbered.0 numbered.1) (enumerate_from (from + 1) later)
 
     own : (b : Bool) → cond b (Some (RowTwice from)) (refused_over from operation.op (rows operation.table operation.key)) ≡ None → refused_over from operation.op (rows operation.table operation.key) ≡ None
     own true none = absurd (let g : Some (RowTwice from) ≡ None = none in cc)
     own false none = none
 
-    go : (x : Option Refusal) → refusal_behind rows (take from all) from operation ≡ x → first_of (cons_option x rest) ≡ None → (first_of rest ≡ None → AllByRecursion (λ operation. (n : ℕ) × (refused_over n operation.op (rows operation.table operation.key) ≡ None)) later) → AllByRecursion (λ operation. (n : ℕ) × (refused_over n operation.op (rows operation.table operation.key) ≡ None)) (operation ∷ later)
+    go : (x : Option Refusal) → refusal_after rows (take from all) from operation ≡ x → first_of (cons_option x rest) ≡ None → (first_of rest ≡ None → AllByRecursion (λ operation. (n : ℕ) × (refused_over n operation.op (rows operation.table operation.key) ≡ None)) later) → AllByRecursion (λ operation. (n : ℕ) × (refused_over n operation.op (rows operation.table operation.key) ≡ None)) (operation ∷ later)
     go None q none more = ((from, own (list_any (is_same_row operation) (take from all)) q), more none)
     go (Some refusal) q none more = absurd (let g : Some refusal ≡ None = none in cc)
 
@@ -127,7 +127,7 @@ there_is : (columns : List Column) (key : ℕ) (row : Option Row) → (row ≡ N
 there_is columns key None some is = absurd (some refl)
 there_is columns key (Some row) some is = is.fits
 
--- what an operation makes over the row that is there fits
+-- the change that an operation makes fits the table
 made_fits : (tables : List Mapped) (author transid n : ℕ) (operation : ClientOp) (row : Option Row) → OperationFits tables operation → IfSome row (IsRowOf (columns_of tables operation.table) operation.key) → refused_over n operation.op row ≡ None → FitsTables tables (change_over author transid row operation)
 made_fits tables author transid n operation row fits is free = record {
   declared = fits.declared;
@@ -179,7 +179,7 @@ all_made tables author transid rows [] fits is free = tt
 all_made tables author transid rows (operation ∷ operations) fits is free =
     (made_fits tables author transid free.0.0 operation (rows operation.table operation.key) fits.0 (is operation.table operation.key) free.0.1, all_made tables author transid rows operations fits.1 is free.1)
 
--- the changes of a transaction that is accepted fit
+-- the changes of an accepted transaction fit their tables
 pub changes_fit : (shape : Shape) (author transid : ℕ) (operations : List ClientOp) (j : Journal) → JournalFits shape j → AllByRecursion (OperationFits shape.tables) operations → refusal_of (λ table key. row_at shape.site table key j) operations ≡ None → AllByRecursion (FitsTables shape.tables) (changes_made (λ table key. row_at shape.site table key j) author transid operations)
 unfolding refusal_of changes_made
 changes_fit shape author transid operations j fits ops free =

@@ -1,4 +1,4 @@
--- How a run grows: what holds of a site goes on to hold, and its log only gets longer.
+-- The growth of a run: the site stays sound, and its log only gets longer.
 use Rattle.std.proofs.Common.{◌≡◌, ℕ, zero, suc, ◌+◌, ◌*◌, ◌<◌, ◌≤◌, Bool, true, false, List, [], ◌∷◌, ◌++◌, length, take, drop, fold, refl, sym, ap, subst, ◌∙◌, arith, append_assoc}
 use Rattle.std.specs.Prelude.{if◌then◌else◌, Option, Some, None}
 use Rattle.std.specs.List.{slice_get}
@@ -16,7 +16,7 @@ use Rattle.rb_journal_defs.specs.Body.{Shape, body_of, completed_bodies}
 use Rattle.rb_journal_defs.specs.Transaction.{Refusal, refusal_of}
 use Rattle.rb_journal_defs.proofs.Bodies.{if_logged, completed_client, completed_closed}
 use Rattle.rb_message_defs.specs.Received.{answer_to}
-use Rattle.rb_play_defs.specs.Step.{Progress, unchanged, refused, rows_of, tx_changes, committed, commit_outcome, tx_step, closed, close_step, fed_by, delivered_message, answer_outcome, deliver_step, undelivered, after_delivery, all_delivered, delivery_of_all, deliver_all_step, Stepped, needed_of, takeover_step, loss_step, fail_step, restart_step, resend_step, injector_step, unless_lost, takeable, injected, injection_of, inject_step, site_step, written_bodies, with_taken}
+use Rattle.rb_play_defs.specs.Step.{Progress, unchanged, refused, rows_of, tx_changes, committed, commit_outcome, tx_step, closed, close_step, fed_by, delivered_message, answer_outcome, deliver_step, undelivered, after_delivery, all_delivered, delivery_of_all, deliver_all_step, StepResult, needed_of, takeover_step, loss_step, fail_step, restart_step, resend_step, injector_step, unless_lost, takeable, injected, injection_of, inject_step, site_step, written_bodies, with_taken}
 use Rattle.rb_play_defs.specs.Sound.{IsSound}
 use Rattle.rb_play_defs.specs.declared.event.SiteEvent.{SiteEvent}
 use Rattle.rb_play_defs.specs.declared.event.SiteEvent.TheVariants as happenings
@@ -27,7 +27,7 @@ use Rattle.rb_play_defs.proofs.Sounds.{closed_all_below, sound_beginning, sound_
 use Rattle.rb_play_defs.proofs.Restarts.{sound_injector}
 use Rattle.rb_play_defs.proofs.Takes.{sound_delivered, sound_taken, takeable_rest, injected_more, injected_end, written_is, written_more}
 
--- these begin with those
+-- the list `whole` begins with the list `first`
 pub record Begins (first whole : List EpochBody) : Type 0 where
   pub rest : List EpochBody
   pub whole_is : whole ≡ first ++ rest
@@ -44,7 +44,7 @@ begins_then a b c first second = record {
 begins_same : (a b : List EpochBody) → b ≡ a → Begins a b
 begins_same a b same = subst (Begins a) (sym same) (begins_self a)
 
--- what an event leaves
+-- the effect of an event: the site stays sound, and its log begins with the log before
 pub record Goes (shape : Shape) (run next : Progress) : Type 0 where
   pub sound : IsSound shape next
   pub grows : Begins (written_bodies shape run) (written_bodies shape next)
@@ -55,7 +55,7 @@ goes_self shape run sound = record { sound = sound; grows = begins_self (written
 goes_then : (shape : Shape) (a b c : Progress) → Goes shape a b → Goes shape b c → Goes shape a c
 goes_then shape a b c first second = record { sound = second.sound; grows = begins_then (written_bodies shape a) (written_bodies shape b) (written_bodies shape c) first.grows second.grows }
 
--- no more bodies are written than there are
+-- at most all completed bodies are logged
 pub written_within : (shape : Shape) (run : Progress) → IsSound shape run → run.written ≤ length (completed_bodies shape run.journal)
 written_within shape run sound = length_of_take run.written (completed_bodies shape run.journal) (ap length (written_is shape run sound) ∙ length-map _ _ ∙ sym sound.written)
   where
@@ -117,7 +117,7 @@ pub goes_injection : (shape : Shape) (run : Progress) → IsSound shape run → 
 unfolding injection_of
 goes_injection shape run sound = goes_taken shape run (takeable shape run) sound refl
 
--- a node that fails, or starts again, and a resend
+-- the failure or the restart of a node, and a resend
 goes_fail : (shape : Shape) (node : ℕ) (run : Progress) → IsSound shape run → Goes shape run (fail_step shape node run).run
 unfolding fail_step
 goes_fail shape node run sound = record { sound = sound_fail shape node run sound; grows = go (node_at run.nodes node).up (successor_of run.nodes (needed_of shape run) node) }
@@ -139,13 +139,13 @@ goes_resend : (shape : Shape) (run : Progress) → IsSound shape run → Goes sh
 unfolding resend_step
 goes_resend shape run sound = record { sound = sound_resend shape run sound; grows = begins_self (written_bodies shape run) }
 
--- an injector that stops
+-- the restart of the injector
 goes_injector : (shape : Shape) (run : Progress) → IsSound shape run → Goes shape run (injector_step shape run).run
 unfolding injector_step
 goes_injector shape run sound = record { sound = sound_injector shape run sound; grows = begins_self (written_bodies shape run) }
 
--- an event that a lost site refuses
-goes_unless : (shape : Shape) (run : Progress) (step : Stepped) → IsSound shape run → Goes shape run step.run → Goes shape run (unless_lost run step).run
+-- an event that a site with a lost group refuses
+goes_unless : (shape : Shape) (run : Progress) (step : StepResult) → IsSound shape run → Goes shape run step.run → Goes shape run (unless_lost run step).run
 goes_unless shape run step sound next = go run.lost
   where
     go : (lost : Option (ℕ × ℕ)) → Goes shape run (option_map_or (λ loss. unchanged run (outcomes.SiteLost loss.0 (record { 0 = loss.1 }))) lost step).run
@@ -192,19 +192,19 @@ goes shape run (events.Applier site) sound = goes_self shape run sound
 goes shape run (events.Dump site) sound = goes_self shape run sound
 goes shape run events.Drain sound = goes_self shape run sound
 
--- more events
+-- a list of events
 pub goes_on : (shape : Shape) (played : Played) (lined : List LinedEvent) → IsSound shape played.run → Goes shape played.run (fold (played_on shape) played lined).run
 goes_on shape played [] sound = goes_self shape played.run sound
 goes_on shape played (event ∷ later) sound =
     let one = goes shape played.run event.event sound in
     goes_then shape played.run (played_on shape played event).run (fold (played_on shape) played (event ∷ later)).run one (goes_on shape (played_on shape played event) later one.sound)
 
--- the events behind a front of them
+-- the run of the first `i` events, continued with the other events, is the whole run
 pub played_rest : (setup : Setup) (lined : List LinedEvent) (i : ℕ) → fold (played_on (shape_of setup)) (play_of setup (take i lined)) (drop i lined) ≡ play_of setup lined
 unfolding play_of
 played_rest setup lined i = sym (fold-append (played_on (shape_of setup)) (not_played setup) (take i lined) (drop i lined)) ∙ ap (fold (played_on (shape_of setup)) (not_played setup)) (take-append-drop i lined)
 
--- a front of a run is sound
-pub sound_front : (setup : Setup) (lined : List LinedEvent) (i : ℕ) → 0 < setup.a.groups * setup.a.replicas → 0 < setup.a.replicas → IsSound (shape_of setup) (play_of setup (take i lined)).run
+-- the site is sound after the first `i` events of a run
+pub sound_prefix : (setup : Setup) (lined : List LinedEvent) (i : ℕ) → 0 < setup.a.groups * setup.a.replicas → 0 < setup.a.replicas → IsSound (shape_of setup) (play_of setup (take i lined)).run
 unfolding play_of
-sound_front setup lined i some each = (goes_on (shape_of setup) (not_played setup) (take i lined) (sound_beginning (shape_of setup) setup.a.groups setup.a.replicas refl some each)).sound
+sound_prefix setup lined i some each = (goes_on (shape_of setup) (not_played setup) (take i lined) (sound_beginning (shape_of setup) setup.a.groups setup.a.replicas refl some each)).sound

@@ -1,4 +1,4 @@
--- An injector that stops, and begins again behind the last epoch that is written.
+-- The restart of an injector, which afterwards expects the epoch after the last logged one.
 use Rattle.std.proofs.Common.{◌≡◌, ℕ, ◌<◌, ◌≤◌, Bool, true, false, cond, List, [], ◌∷◌, length, map, filter, refl, sym, ap, subst, ◌∙◌, inl, inr, arith, le-leb}
 use Rattle.std.specs.Prelude.{◌⊎◌, nat_le, Option, Some, None, unwrap_or}
 use Rattle.std.specs.List.{AllByRecursion, last_or}
@@ -23,13 +23,13 @@ unfolding body_of
 epochs_of_bodies shape j [] = refl
 epochs_of_bodies shape j (e ∷ es) = ap (λ (xs : List ℕ). e ∷ xs) (epochs_of_bodies shape j es)
 
--- the acknowledged epoch is the last one worth logging up to the last taken one
+-- the acknowledged epoch is the last epoch that has something to log, up to the last taken one
 pub acknowledged_is : (shape : Shape) (run : Progress) → IsSound shape run → acknowledged_epoch shape run ≡ unwrap_or (last_or None (worth_logging shape run.journal (upto run.last run.journal))) 0
 acknowledged_is shape run sound =
     ap last_epoch (written_is shape run sound)
     ∙ ap (λ (es : List ℕ). unwrap_or (last_or None es) 0) (epochs_of_bodies shape run.journal (worth_logging shape run.journal (upto run.last run.journal)))
 
--- the last of these numbers, or one before them
+-- the last of these numbers, or `before` if there is none
 abbrev last_from : ℕ → List ℕ → ℕ
 last_from before [] = before
 last_from before (x ∷ xs) = last_from x xs
@@ -42,7 +42,7 @@ last_is : (xs : List ℕ) → unwrap_or (last_or None xs) 0 ≡ last_from 0 xs
 last_is [] = refl
 last_is (x ∷ xs) = last_of_some x xs
 
--- it is no less than what all are above
+-- the last number, or `x`, is at least `x` if all numbers are
 last_least : (x : ℕ) (xs : List ℕ) → AllByRecursion (λ y. x < y) xs → AllByRecursion (λ y. x ≤ y) xs → x ≤ last_from x xs
 last_least x [] above all = omega arith
 last_least x (y ∷ ys) above all = go x y ys all.0 all.1
@@ -51,12 +51,12 @@ last_least x (y ∷ ys) above all = go x y ys all.0 all.1
     go least y [] here all = here
     go least y (z ∷ ys) here all = go least z ys all.0 all.1
 
--- what is above a number is no less than it
+-- a number above `x` is at least `x`
 no_less : (x : ℕ) (xs : List ℕ) → AllByRecursion (λ y. x < y) xs → AllByRecursion (λ y. x ≤ y) xs
 no_less x [] all = tt
 no_less x (y ∷ ys) all = (let l : x < y = all.0 in omega arith, no_less x ys all.1)
 
--- what passes a test was there before
+-- the numbers that pass a test are still above `x`
 kept_above : (x : ℕ) (test : ℕ → Bool) (xs : List ℕ) → AllByRecursion (λ y. x < y) xs → AllByRecursion (λ y. x < y) (filter test xs)
 kept_above x test [] all = tt
 kept_above x test (y ∷ ys) all = go (test y) (kept_above x test ys all.1)
@@ -65,7 +65,7 @@ kept_above x test (y ∷ ys) all = go (test y) (kept_above x test ys all.1)
     go true rest = (all.0, rest)
     go false rest = rest
 
--- no number above a bound is up to it
+-- no number above a bound is at most that bound
 none_upto : (bound : ℕ) (xs : List ℕ) → AllByRecursion (λ y. bound < y) xs → filter (λ x. nat_le x bound) xs ≡ []
 none_upto bound [] all = refl
 none_upto bound (x ∷ xs) all = rw (lt-leb x bound all.0) (none_upto bound xs all.1)
@@ -74,11 +74,12 @@ above_lower : (lower bound : ℕ) (xs : List ℕ) → lower < bound → AllByRec
 above_lower lower bound [] below all = tt
 above_lower lower bound (x ∷ xs) below all = (let l : bound < x = all.0 in omega arith, above_lower lower bound xs below all.1)
 
--- of rising numbers, those that pass a test and are up to the last such one up to a bound are those up to that bound
+-- the numbers up to a limit that pass a test
 abbrev passing_upto : (test : ℕ → Bool) (limit : ℕ) → List ℕ → List ℕ
 passing_upto test limit xs = filter test (filter (λ y. nat_le y limit) xs)
 
--- one number before them that is up to the bound: whether it passes the test
+-- in a rising list the passing numbers up to the last passing number up to a bound are those up to
+-- that bound; the step for one more number at the front
 one_before : (test : ℕ → Bool) (bound before x : ℕ) (xs : List ℕ) (b : Bool) → test x ≡ b → AllByRecursion (λ y. x < y) xs → passing_upto test (last_from x (passing_upto test bound xs)) xs ≡ passing_upto test bound xs → passing_upto test (last_from before (passing_upto test bound xs)) xs ≡ passing_upto test bound xs → passing_upto test (last_from before (cond b (x ∷ passing_upto test bound xs) (passing_upto test bound xs))) (x ∷ xs) ≡ cond b (x ∷ passing_upto test bound xs) (passing_upto test bound xs)
 one_before test bound before x xs true is above from_x from_before =
     let later : List ℕ = passing_upto test bound xs in
@@ -108,7 +109,7 @@ all_positive : (top : ℕ) (xs : List ℕ) → Rises top xs → AllByRecursion (
 all_positive top [] rises = tt
 all_positive top (x ∷ xs) rises = (rises.0, all_positive top xs rises.3)
 
--- the last of some numbers is the one before them, or stands among them
+-- the last number of a list, or `before`, is `before` or is in the list
 last_among : (before : ℕ) (xs : List ℕ) → (last_from before xs ≡ before) ⊎ Among (last_from before xs) xs
 last_among before [] = inl refl
 last_among before (x ∷ xs) = go (last_among x xs)
@@ -126,7 +127,7 @@ among_kept e test (x ∷ xs) there = go (test x) there (among_kept e test xs)
     go true (inr later) more = inr (more later)
     go false later more = inr (more later)
 
--- a run whose event buffer is empty behind the acknowledged epoch
+-- a site whose event buffer is empty and whose last taken epoch is the acknowledged one stays sound
 sound_again : (shape : Shape) (run : Progress) → IsSound shape run → IsSound shape (record run { received = []; last = acknowledged_epoch shape run })
 sound_again shape run sound =
     let test : ℕ → Bool = λ epoch. has_something_to_log (body_of shape epoch run.journal) in
@@ -148,12 +149,12 @@ sound_again shape run sound =
     known (inl none) = inl none
     known (inr there) = inr (among_closed _ run.journal (among_kept _ (λ e. nat_le e run.last) (closed_epochs run.journal) (among_kept _ (λ epoch. has_something_to_log (body_of shape epoch run.journal)) (filter (λ e. nat_le e run.last) (closed_epochs run.journal)) there)))
 
--- what the owners send to a new injector is the journal's
+-- the messages that owners send to a new injector are the journal's
 sent_to_own : (shape : Shape) (run : Progress) (lost : Option (ℕ × ℕ)) → AllByRecursion (λ (s : Sent). IsOwn shape run.journal s.message) (option_map_or (λ loss. []) lost (sent_by_owners shape run))
 sent_to_own shape run None = again_own shape run (owner_in run.nodes) (numbers_below shape.buckets) (all_below shape.buckets (λ k below. below))
 sent_to_own shape run (Some loss) = tt
 
--- an injector that stops
+-- the site stays sound after a restart of the injector
 pub sound_injector : (shape : Shape) (run : Progress) → IsSound shape run → IsSound shape (injector_step shape run).run
 unfolding injector_step
 sound_injector shape run sound =

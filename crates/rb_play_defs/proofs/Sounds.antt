@@ -1,4 +1,4 @@
--- Each event keeps what holds of a site.
+-- Each event keeps a site sound.
 use Rattle.std.proofs.Common.{◌≡◌, ℕ, zero, suc, ◌+◌, ◌*◌, ◌/◌, ◌^◌, ◌<◌, ◌≤◌, Bool, true, false, cond, List, [], ◌∷◌, ◌++◌, length, map, filter, refl, sym, ap, subst, ◌∙◌, inl, inr, arith, length-append}
 use Rattle.std.specs.Prelude.{◌⊎◌, ◌==◌, nat_le, if◌then◌else◌, Option, Some, None}
 use Rattle.std.specs.List.{AllByRecursion, enumerate_from, flat_map}
@@ -31,7 +31,7 @@ pub epoch_rises : (gci : Bool) (epoch : ℕ) → epoch < epoch_after gci epoch
 epoch_rises false epoch = omega arith
 epoch_rises true epoch = gci_rises epoch
 
--- messages as their owners send them
+-- messages that their owners send are the journal's
 own_sent : (shape : Shape) (j : Journal) (owner : ℕ → ℕ) (ms : List Message) → AllByRecursion (IsOwn shape j) ms → AllByRecursion (λ (s : Sent). IsOwn shape j s.message) (map (sent_by owner) ms)
 own_sent shape j owner [] all = tt
 own_sent shape j owner (m ∷ ms) all = (all.0, own_sent shape j owner ms all.1)
@@ -40,7 +40,7 @@ pub length_numbers : (n : ℕ) → length (numbers_below n) ≡ n
 length_numbers zero = refl
 length_numbers (suc n) = let more = length-append (numbers_below n) (n ∷ []) in let same = length_numbers n in omega arith
 
--- the end of a bucket is a message behind the close
+-- the Done of a bucket is a message of the journal after the close
 done_is_own : (shape : Shape) (o bucket : ℕ) (j : Journal) → bucket < shape.buckets → IsOwn shape (Closed o ∷ j) (done_message shape o bucket j)
 done_is_own shape o bucket j within = (within, (inl refl, sym (previous_stays o o j (omega arith)), ap length (sym (part_of_close shape o bucket o j))))
 
@@ -55,7 +55,7 @@ last_below_opened shape run sound = go sound.last
     go (inl q) = let h = opened_above run.opened run.journal sound.order in omega arith
     go (inr c) = closed_below run.opened run.last run.journal sound.order c
 
--- the epochs worth logging, by bodies that stay
+-- if bodies are unchanged, so are the epochs that have something to log
 worth_same : (shape : Shape) (old new : Journal) (epochs : List ℕ) → ((e : ℕ) → body_of shape e new ≡ body_of shape e old) → worth_logging shape new epochs ≡ worth_logging shape old epochs
 worth_same shape old new [] same = refl
 worth_same shape old new (e ∷ es) same = rw (same e) (go (has_something_to_log (body_of shape e old)) (worth_same shape old new es same))
@@ -72,7 +72,7 @@ worth_within shape old new top (e ∷ es) below same = rw (same e below.0) (go (
     go true q = ap (λ (xs : List ℕ). e ∷ xs) q
     go false q = q
 
--- filtered epochs are below what all are below
+-- epochs that pass a test are below a bound if all epochs are
 filter_below : (top : ℕ) (test : ℕ → Bool) (xs : List ℕ) → AllByRecursion (λ e. e < top) xs → AllByRecursion (λ e. e < top) (filter test xs)
 filter_below top test [] all = tt
 filter_below top test (x ∷ xs) all = go (test x) (filter_below top test xs all.1)
@@ -89,7 +89,7 @@ rise_below top (x ∷ xs) rises = (rises.1, rise_below top xs rises.3)
 pub closed_all_below : (o : ℕ) (j : Journal) → InOrder o j → AllByRecursion (λ e. e < o) (closed_epochs j)
 closed_all_below o j h = rise_below o (closed_epochs j) (closed_rise o j h)
 
--- the nodes at the start
+-- the nodes of a new site
 nodes_at_start : (groups replicas : ℕ) → 0 < replicas → AreNodes (groups * replicas) (nodes_at_first groups replicas)
 nodes_at_start groups replicas some = record {
   some = some;
@@ -110,7 +110,7 @@ sound_beginning shape groups replicas count some each = record {
   written = refl;
 }
 
--- the nodes and owners stay as many
+-- the numbers of nodes and owners are unchanged
 with_node_stays : (buckets number : ℕ) (node : Node) (site : Nodes) → AreNodes buckets site → AreNodes buckets (with_node number node site)
 with_node_stays buckets number node site nodes = record {
   some = nodes.some;
@@ -132,7 +132,7 @@ with_returns_stays buckets needed site nodes = record {
   whole = nodes.whole;
 }
 
--- what is sent besides is the journal's
+-- further messages of the journal may be sent
 pub sound_sent : (shape : Shape) (run : Progress) (sent : List Sent) → IsSound shape run → AllByRecursion (λ s. IsOwn shape run.journal s.message) sent → IsSound shape (record run { sent = run.sent ++ sent })
 sound_sent shape run sent sound own = record {
   order = sound.order;
@@ -147,7 +147,7 @@ sound_sent shape run sent sound own = record {
 sound_nodes : (shape : Shape) (run : Progress) (nodes : Nodes) (lost : Option (ℕ × ℕ)) → IsSound shape run → AreNodes shape.buckets nodes → IsSound shape (record run { nodes = nodes; lost = lost })
 sound_nodes shape run nodes lost sound are = record { order = sound.order; some = sound.some; sent = sound.sent; received = sound.received; last = sound.last; nodes = are; written = sound.written }
 
--- what is sent again of some buckets
+-- the messages that are resent for some buckets are the journal's
 pub again_own : (shape : Shape) (run : Progress) (sender : ℕ → ℕ) (buckets : List ℕ) → AllByRecursion (λ bucket. bucket < shape.buckets) buckets → AllByRecursion (λ s. IsOwn shape run.journal s.message) (flat_map (λ bucket. sent_again shape run (sender bucket) bucket) buckets)
 again_own shape run sender [] all = tt
 again_own shape run sender (bucket ∷ buckets) all =
@@ -163,11 +163,11 @@ sound_takeover shape node successor run sound =
     (again_own shape run (λ bucket. successor) (owned_by run.nodes node) (filter_below shape.buckets (λ bucket. owner_in run.nodes bucket == node) (numbers_below (length run.nodes.owners)) (subst (λ (n : ℕ). AllByRecursion (λ bucket. bucket < n) (numbers_below (length run.nodes.owners))) sound.nodes.owners (all_below (length run.nodes.owners) (λ k below. below))))))
     (with_owner_stays shape.buckets node successor (with_failure node (length run.sent) run.nodes) (with_node_stays shape.buckets node _ run.nodes sound.nodes))
 
--- a loss
+-- the loss of a group
 pub sound_loss : (shape : Shape) (node : ℕ) (run : Progress) → IsSound shape run → IsSound shape (loss_step shape node run).run
 sound_loss shape node run sound = sound_nodes shape run (with_failure node (length run.sent) run.nodes) (Some (group_of run.nodes node, needed_of shape run)) sound (with_node_stays shape.buckets node _ run.nodes sound.nodes)
 
--- a node that fails, or starts again
+-- the failure or the restart of a node
 pub sound_fail : (shape : Shape) (node : ℕ) (run : Progress) → IsSound shape run → IsSound shape (fail_step shape node run).run
 unfolding fail_step
 sound_fail shape node run sound = go (node_at run.nodes node).up (successor_of run.nodes (needed_of shape run) node)
@@ -192,7 +192,7 @@ sound_resend shape run sound =
     sound_sent shape run (flat_map (λ bucket. sent_again shape run (owner_in run.nodes bucket) bucket) (numbers_below shape.buckets)) sound
     (again_own shape run (owner_in run.nodes) (numbers_below shape.buckets) (all_below shape.buckets (λ k below. below)))
 
--- a transaction that is accepted
+-- an accepted transaction
 pub sound_commit : (shape : Shape) (operations : List ClientOp) (run : Progress) → IsSound shape run → IsSound shape (committed shape operations run)
 sound_commit shape operations run sound =
     let changes = tx_changes shape operations run in
@@ -212,7 +212,7 @@ sound_commit shape operations run sound =
           (λ e l. body_of_other shape e (Client run.opened (run.drawn + 1) changes) run.journal (let m = l in λ q. absurd (omega arith)))));
     }
 
--- a close, before anything is sent
+-- a close, before any message is sent
 sound_only_closed : (shape : Shape) (gci : Bool) (run : Progress) → IsSound shape run → IsSound shape (only_closed gci run)
 sound_only_closed shape gci run sound =
     let more = own_more shape run.journal (Closed run.opened ∷ run.journal) (λ m is. stays_at_close shape run.opened run.journal m sound.order is) in
@@ -245,7 +245,7 @@ buckets_within shape run group below =
     all_mapped (λ bucket. bucket < shape.buckets) (λ step. group * run.nodes.replicas + step) (numbers_below run.nodes.replicas)
     (all_below run.nodes.replicas (λ step within. group_within shape.buckets run.nodes.replicas group step below within))
 
--- what a group sends at a close
+-- the messages that a group sends at a close are the journal's
 close_own : (shape : Shape) (gci : Bool) (run : Progress) (group : ℕ) → group < shape.buckets / run.nodes.replicas → AllByRecursion (λ (s : Sent). IsOwn shape (only_closed gci run).journal s.message) (sent_at_close shape run (only_closed gci run) group)
 close_own shape gci run group below =
     let after = only_closed gci run in

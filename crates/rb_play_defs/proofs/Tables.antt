@@ -1,4 +1,4 @@
--- A table has one list of rows, whatever keys they are read by.
+-- The rows of a table do not depend on the list of keys by which they are read.
 use Rattle.std.proofs.Common.{◌≡◌, ℕ, ◌<◌, Bool, true, false, cond, List, [], ◌∷◌, map, filter, filter_map, fold, refl, sym, ap, subst, ◌∙◌, Ordering, Less, Equal, Greater, nat_cmp}
 use Rattle.std.specs.Prelude.{◌==◌, ◌||◌, ◌&&◌, Option, Some, None, IsSome, is_some}
 use Rattle.std.specs.List.{list_any, flat_map, cons_option}
@@ -20,15 +20,15 @@ use Rattle.rb_base.specs.declared.change.Change.{Change}
 use Rattle.rb_journal_defs.specs.Journal.{Journal, changes_of, names_key, of_key, row_left, row_at}
 use Rattle.rb_journal_defs.specs.Table.{keys_named, keys_of_table, rows_of_table, IsTable}
 
--- keys in order
+-- keys in strictly ascending order
 abbrev Ordered : List ℕ → Type 0
 Ordered keys = IsStrictlySortedBy nat_cmp keys
 
--- whether a key is one of these
+-- a key is one of these
 abbrev is_among : (key : ℕ) → List ℕ → Bool
 is_among key keys = list_any (eq_by_cmp nat_cmp key) keys
 
--- keys in order stay so with one key more
+-- ascending keys with one more key inserted are ascending
 inserted_ordered : (key : ℕ) (keys : List ℕ) → Ordered keys → Ordered (insert_key nat_cmp keys key)
 unfolding IsStrictlySortedBy
 inserted_ordered key [] ordered = (tt, tt)
@@ -42,16 +42,16 @@ inserted_ordered key (x ∷ keys) ordered = go (nat_cmp key x) refl (inserted_or
     go Equal is rest = ordered
     go Greater is rest = (recursion_from_All (Above x) (insert_key nat_cmp keys key) (All-insert_key nat_cmp key (Above x) keys (All-from_recursion (Above x) keys ordered.0) (nat_cmp_total.antisymm x key ∙ ap ordering_reverse is)), rest)
 
--- keys put in order are in order
+-- keys inserted one after another are ascending
 all_ordered : (keys before : List ℕ) → Ordered before → Ordered (fold (insert_key nat_cmp) before keys)
 all_ordered [] before ordered = ordered
 all_ordered (key ∷ keys) before ordered = all_ordered keys (insert_key nat_cmp before key) (inserted_ordered key before ordered)
 
--- of three, the first two change places
+-- the first two of three conditions may change places
 or_swap : (a b c : Bool) → (a || (b || c)) ≡ (b || (a || c))
 or_swap a b c = sym (or_assoc a b c) ∙ ap (λ (first : Bool). first || c) (or_comm a b) ∙ or_assoc b a c
 
--- a test that one of some keys and one key more passes
+-- a test of one more key
 any_inserted : (test : ℕ → Bool) (key : ℕ) (keys : List ℕ) → list_any test (insert_key nat_cmp keys key) ≡ (test key || list_any test keys)
 any_inserted test key [] = refl
 any_inserted test key (x ∷ keys) = go (nat_cmp key x) (ranks key x) (any_inserted test key keys)
@@ -62,14 +62,14 @@ any_inserted test key (x ∷ keys) = go (nat_cmp key x) (ranks key x) (any_inser
     go Equal same rest = sym (or_self_left (test x) (list_any test keys)) ∙ ap (λ (k : ℕ). test k || (test x || list_any test keys)) (sym same)
     go Greater above rest = ap (λ (b : Bool). test x || b) rest ∙ or_swap (test x) (test key) (list_any test keys)
 
--- a test that one of keys put in order passes
+-- a test of keys that were inserted one after another
 any_ordered : (test : ℕ → Bool) (keys before : List ℕ) → list_any test (fold (insert_key nat_cmp) before keys) ≡ (list_any test keys || list_any test before)
 any_ordered test [] before = refl
 any_ordered test (key ∷ keys) before =
     any_ordered test keys (insert_key nat_cmp before key) ∙ ap (λ (b : Bool). list_any test keys || b) (any_inserted test key before)
     ∙ or_swap (list_any test keys) (test key) (list_any test before) ∙ sym (or_assoc (test key) (list_any test keys) (list_any test before))
 
--- a change names the key where it is one of the keys that the changes name
+-- a change names the key if the key is one of those that the changes name
 any_named : (table key : ℕ) (changes : List Change) → list_any (names_key table key) changes ≡ list_any (λ other. other == key) (keys_named table changes)
 any_named table key [] = refl
 any_named table key (change ∷ changes) = go (change.table == table) (any_named table key changes)
@@ -79,7 +79,7 @@ any_named table key (change ∷ changes) = go (change.table == table) (any_named
     go true more = ap (λ (b : Bool). (change.key == key) || b) more
     go false more = more
 
--- where changes leave a row, one of them names its key or it was there
+-- if changes leave a row, one of them names its key, or the row was there before
 left_by_any : (table key : ℕ) (changes : List Change) (row : Option Row) → IsSome (row_left (of_key table key changes) row) → (list_any (names_key table key) changes || is_some row) ≡ true
 left_by_any table key [] row some = some
 left_by_any table key (change ∷ changes) row some = go (names_key table key change) some (left_by_any table key changes row)
@@ -89,7 +89,7 @@ left_by_any table key (change ∷ changes) row some = go (names_key table key ch
     go true some more = refl
     go false some more = more some
 
--- where a journal leaves a row, one of its changes names the key
+-- if a journal leaves a row, one of its changes names the key
 at_by_any : (site : SiteId) (table key : ℕ) (journal : Journal) → IsSome (row_at site table key journal) → list_any (names_key table key) (flat_map (changes_of site) journal) ≡ true
 at_by_any site table key [] some = some
 at_by_any site table key (entry ∷ older) some =
@@ -108,11 +108,11 @@ is_complete site table journal key some =
     ap (λ (test : ℕ → Bool). list_any test (keys_of_table site table journal)) tests ∙ any_ordered (λ other. other == key) (keys_named table changes) []
     ∙ ap (λ (b : Bool). b || false) (sym (any_named table key changes) ∙ at_by_any site table key journal some)
 
--- those of these keys that have a row
+-- the keys among these that have a row
 abbrev with_row : (ℕ → Option Row) → List ℕ → List ℕ
 with_row row_of keys = filter (λ key. is_some (row_of key)) keys
 
--- keys without a row give none
+-- keys without a row give no rows
 rows_kept : (row_of : ℕ → Option Row) (keys : List ℕ) → filter_map row_of keys ≡ filter_map row_of (with_row row_of keys)
 rows_kept row_of [] = refl
 rows_kept row_of (key ∷ keys) = go (row_of key) refl (rows_kept row_of keys)
@@ -121,7 +121,7 @@ rows_kept row_of (key ∷ keys) = go (row_of key) refl (rows_kept row_of keys)
     go None is more = more
     go (Some row) is more = ap (cons_option (Some row)) more ∙ ap (λ (r : Option Row). cons_option r (filter_map row_of (with_row row_of keys))) (sym is)
 
--- rows read by any keys in order are the same, where each key that has a row is among the keys
+-- two ascending lists of keys give the same rows if both contain every key that has a row
 same_rows : (row_of : ℕ → Option Row) (xs ys : List ℕ) → Ordered xs → Ordered ys → ((key : ℕ) → IsSome (row_of key) → is_among key xs ≡ true) → ((key : ℕ) → IsSome (row_of key) → is_among key ys ≡ true) → filter_map row_of xs ≡ filter_map row_of ys
 same_rows row_of xs ys in_order_xs in_order_ys in_xs in_ys =
     let stay_ordered = IsStrictlySortedBy-filter nat_cmp (λ key. is_some (row_of key)) in
@@ -139,7 +139,8 @@ same_rows row_of xs ys in_order_xs in_order_ys in_xs in_ys =
     members : (key : ℕ) → is_among key (with_row row_of xs) ≡ is_among key (with_row row_of ys)
     members key = kept key xs ∙ both (is_some (row_of key)) (is_among key xs) (is_among key ys) (in_xs key) (in_ys key) ∙ sym (kept key ys)
 
--- rows that are those of a table in which each key has the row that a journal leaves are the table's rows
+-- if rows are those of the table in which each key has the row that the journal leaves, they are
+-- the table's rows
 pub table_is : (site : SiteId) (table : ℕ) (journal : Journal) (row_of : ℕ → Option Row) (rows : List Row) → ((key : ℕ) → row_of key ≡ row_at site table key journal) → IsTable row_of rows → rows ≡ rows_of_table site table journal
 unfolding rows_of_table IsStrictlySortedBy
 table_is site table journal row_of rows same is =

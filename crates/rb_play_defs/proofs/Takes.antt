@@ -1,4 +1,4 @@
--- What the injector takes, one epoch after the other.
+-- The epochs that the injector takes, one after another.
 use Rattle.std.proofs.Common.{◌≡◌, ℕ, zero, suc, ◌+◌, Bool, true, false, cond, List, [], ◌∷◌, ◌++◌, length, map, take, refl, sym, ap, subst, ◌∙◌, inr, arith}
 use Rattle.std.specs.Prelude.{Option, Some, None, unwrap_or}
 use Rattle.std.specs.List.{AllByRecursion, slice_get, last_or, take_while}
@@ -13,7 +13,7 @@ use Rattle.rb_journal_defs.specs.Journal.{Journal, closed_epochs}
 use Rattle.rb_journal_defs.specs.Body.{Shape, body_of, has_something_to_log, completed_epochs, completed_bodies}
 use Rattle.rb_journal_defs.specs.Transaction.{first_of}
 use Rattle.rb_journal_defs.proofs.Bodies.{if_logged}
-use Rattle.rb_journal_defs.proofs.Order.{behind, upto, upto_next, closed_cut, first_is_closed}
+use Rattle.rb_journal_defs.proofs.Order.{following, upto, upto_next, closed_cut, first_is_closed}
 use Rattle.rb_message_defs.specs.Received.{is_whole, answer_to}
 use Rattle.rb_message_defs.specs.Taken.{taken_epochs}
 use Rattle.rb_message_defs.proofs.Assembly.{IsFedFrom, taken_rest}
@@ -41,30 +41,30 @@ pub sound_all_delivered : (shape : Shape) (places : List ℕ) (run : Progress) �
 sound_all_delivered shape [] run sound = sound
 sound_all_delivered shape (place ∷ places) run sound = sound_all_delivered shape places (after_delivery shape run place) (sound_deliver shape place run sound)
 
--- what the event buffer was fed is the journal's
+-- the history of the event buffer is one of the journal's messages
 pub fed_from : (shape : Shape) (run : Progress) → IsSound shape run → IsFedFrom shape run.opened run.journal (fed_by shape run)
 fed_from shape run sound = record { order = sound.order; some = sound.some; buckets = refl; last = sound.last; received = sound.received }
 
 worth_append : (shape : Shape) (j : Journal) (xs ys : List ℕ) → worth_logging shape j (xs ++ ys) ≡ worth_logging shape j xs ++ worth_logging shape j ys
 worth_append shape j xs ys = filter-append (λ epoch. has_something_to_log (body_of shape epoch j)) xs ys
 
--- what is behind an epoch begins with what can be taken
-taken_front : (p : ℕ → Bool) (es : List ℕ) (e : ℕ) (rest : List ℕ) → take_while p es ≡ e ∷ rest → (later : List ℕ) × (es ≡ e ∷ later)
-taken_front p [] e rest same = absurd (let g : [] ≡ e ∷ rest = same in cc)
-taken_front p (x ∷ xs) e rest same = go (p x) (sym (take_while-cons p x xs) ∙ same)
+-- the epochs after the last taken one begin with the first one that can be taken
+taken_prefix : (p : ℕ → Bool) (es : List ℕ) (e : ℕ) (rest : List ℕ) → take_while p es ≡ e ∷ rest → (later : List ℕ) × (es ≡ e ∷ later)
+taken_prefix p [] e rest same = absurd (let g : [] ≡ e ∷ rest = same in cc)
+taken_prefix p (x ∷ xs) e rest same = go (p x) (sym (take_while-cons p x xs) ∙ same)
   where
     go : (b : Bool) → cond b (x ∷ take_while p xs) [] ≡ e ∷ rest → (later : List ℕ) × (x ∷ xs ≡ e ∷ later)
     go true same = let xe : x ≡ e = cc in (xs, ap (λ (y : ℕ). y ∷ xs) xe)
     go false same = absurd (let g : [] ≡ e ∷ rest = same in cc)
 
-pub front_of : (shape : Shape) (run : Progress) (e : ℕ) (rest : List ℕ) → takeable shape run ≡ e ∷ rest → (later : List ℕ) × (behind run.last run.journal ≡ e ∷ later)
+pub prefix_of : (shape : Shape) (run : Progress) (e : ℕ) (rest : List ℕ) → takeable shape run ≡ e ∷ rest → (later : List ℕ) × (following run.last run.journal ≡ e ∷ later)
 unfolding taken_epochs
-front_of shape run e rest same = taken_front (is_whole (fed_by shape run)) (behind run.last run.journal) e rest same
+prefix_of shape run e rest same = taken_prefix (is_whole (fed_by shape run)) (following run.last run.journal) e rest same
 
 pub sound_taken : (shape : Shape) (run : Progress) (e : ℕ) (rest : List ℕ) → IsSound shape run → takeable shape run ≡ e ∷ rest → IsSound shape (with_taken shape run e)
 sound_taken shape run e rest sound same =
-    let front = front_of shape run e rest same in
-    let first : first_of (behind run.last run.journal) ≡ Some e = ap (λ (es : List ℕ). first_of es) front.1 in
+    let front = prefix_of shape run e rest same in
+    let first : first_of (following run.last run.journal) ≡ Some e = ap (λ (es : List ℕ). first_of es) front.1 in
     let upto_e = upto_next run.opened run.last e run.journal front.0 sound.order front.1 in
     record {
       order = sound.order;
@@ -78,7 +78,7 @@ sound_taken shape run e rest sound same =
           ∙ ap length (sym (worth_append shape run.journal (upto run.last run.journal) (e ∷ [])) ∙ ap (worth_logging shape run.journal) (sym upto_e));
     }
 
--- what can be taken behind the first epoch
+-- the epochs that can be taken after the first one
 pub takeable_rest : (shape : Shape) (run : Progress) (e : ℕ) (rest : List ℕ) → IsSound shape run → takeable shape run ≡ e ∷ rest → takeable shape (with_taken shape run e) ≡ rest
 takeable_rest shape run e rest sound same = taken_rest run.opened e rest run.journal (fed_by shape run) sound.order same
 
@@ -90,7 +90,7 @@ unwrap_last e d (x ∷ rest) = unwrap_any x d e rest
     unwrap_any x a b [] = refl
     unwrap_any x a b (y ∷ rest) = unwrap_any y a b rest
 
--- the injector's turn is that with one epoch taken, where there is one, and else nothing
+-- an `inject` event that takes one epoch or more takes the first one and then the others
 pub injected_more : (shape : Shape) (run : Progress) (e : ℕ) (rest : List ℕ) → IsSound shape run → takeable shape run ≡ e ∷ rest → injected shape run ≡ injected shape (with_taken shape run e)
 injected_more shape run e rest sound same =
     let later = takeable_rest shape run e rest sound same in
@@ -98,7 +98,7 @@ injected_more shape run e rest sound same =
     ap (λ (es : List ℕ). unwrap_or (last_or None es) run.last) same ∙ unwrap_last e run.last rest ∙ sym (ap (λ (es : List ℕ). unwrap_or (last_or None es) e) later) in
     let all : length (worth_logging shape run.journal (takeable shape run)) ≡ length (worth_logging shape run.journal (e ∷ [])) + length (worth_logging shape run.journal rest) =
     ap (λ (es : List ℕ). length (worth_logging shape run.journal es)) same ∙ ap length (worth_append shape run.journal (e ∷ []) rest) ∙ length-append (worth_logging shape run.journal (e ∷ [])) (worth_logging shape run.journal rest) in
-    let behind_it : length (worth_logging shape run.journal (takeable shape (with_taken shape run e))) ≡ length (worth_logging shape run.journal rest) = ap (λ (es : List ℕ). length (worth_logging shape run.journal es)) later in
+    let following_it : length (worth_logging shape run.journal (takeable shape (with_taken shape run e))) ≡ length (worth_logging shape run.journal rest) = ap (λ (es : List ℕ). length (worth_logging shape run.journal es)) later in
     let counts : run.written + length (worth_logging shape run.journal (takeable shape run)) ≡ run.written + length (worth_logging shape run.journal (e ∷ [])) + length (worth_logging shape run.journal (takeable shape (with_taken shape run e))) = omega arith in
     ap (λ (l : ℕ). record run { last = l; written = run.written + length (worth_logging shape run.journal (takeable shape run)) }) lasts
     ∙ ap (λ (w : ℕ). record run { last = unwrap_or (last_or None (takeable shape (with_taken shape run e))) e; written = w }) counts
@@ -109,21 +109,21 @@ injected_end shape run none =
     ap (λ (l : ℕ). record run { last = l; written = run.written + length (worth_logging shape run.journal (takeable shape run)) }) (ap (λ (es : List ℕ). unwrap_or (last_or None es) run.last) none)
     ∙ ap (λ (w : ℕ). record run { written = w }) counts
 
--- the injector's turn keeps what holds
+-- the site stays sound after an `inject` event
 pub sound_injected : (shape : Shape) (run : Progress) (es : List ℕ) → IsSound shape run → takeable shape run ≡ es → IsSound shape (injected shape run)
 sound_injected shape run [] sound same = subst (IsSound shape) (sym (injected_end shape run same)) sound
 sound_injected shape run (e ∷ rest) sound same =
     subst (IsSound shape) (sym (injected_more shape run e rest sound same))
     (sound_injected shape (with_taken shape run e) rest (sound_taken shape run e rest sound same) (takeable_rest shape run e rest sound same))
 
--- the bodies that are written are those of the epochs up to the last taken one
+-- the logged bodies are those of the epochs up to the last taken one that have something to log
 pub written_is : (shape : Shape) (run : Progress) → IsSound shape run → written_bodies shape run ≡ map (λ epoch. body_of shape epoch run.journal) (worth_logging shape run.journal (upto run.last run.journal))
 unfolding completed_bodies completed_epochs
 written_is shape run sound =
     let cut = closed_cut run.opened run.last run.journal sound.order in
     let first = worth_logging shape run.journal (upto run.last run.journal) in
-    let later = worth_logging shape run.journal (behind run.last run.journal) in
-    let parts : worth_logging shape run.journal (closed_epochs run.journal) ≡ first ++ later = ap (worth_logging shape run.journal) cut ∙ worth_append shape run.journal (upto run.last run.journal) (behind run.last run.journal) in
+    let later = worth_logging shape run.journal (following run.last run.journal) in
+    let parts : worth_logging shape run.journal (closed_epochs run.journal) ≡ first ++ later = ap (worth_logging shape run.journal) cut ∙ worth_append shape run.journal (upto run.last run.journal) (following run.last run.journal) in
     let made = λ (epoch : ℕ). body_of shape epoch run.journal in
     let count : run.written ≡ length (map made first) = sound.written ∙ sym (length-map first made) in
     ap (λ (es : List ℕ). take run.written (map made es)) parts
@@ -131,10 +131,10 @@ written_is shape run sound =
     ∙ take-append-le run.written (map made first) (map made later) (omega arith)
     ∙ take_all run.written (map made first) (omega arith)
 
--- the body of an epoch that is taken is written behind the others, where it has something to log
+-- the body of a taken epoch is appended to the logged bodies, if it has something to log
 pub written_more : (shape : Shape) (run : Progress) (e : ℕ) (rest : List ℕ) → IsSound shape run → takeable shape run ≡ e ∷ rest → written_bodies shape (with_taken shape run e) ≡ written_bodies shape run ++ if_logged (body_of shape e run.journal)
 written_more shape run e rest sound same =
-    let front = front_of shape run e rest same in
+    let front = prefix_of shape run e rest same in
     let made = λ (epoch : ℕ). body_of shape epoch run.journal in
     let next = sound_taken shape run e rest sound same in
     written_is shape (with_taken shape run e) next

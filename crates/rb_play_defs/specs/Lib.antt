@@ -2,5 +2,5 @@ pub mod Step
 pub mod Sound
 pub mod Fitting
 pub mod Play
-pub mod Part
+pub mod UnfinishedLog
 pub mod Worked

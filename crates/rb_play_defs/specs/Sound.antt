@@ -1,4 +1,4 @@
--- What holds of a site at each point of a run.
+-- Invariants of a site, which hold at each point of a run.
 use Rattle.std.specs.Prelude.{◌≡◌, ◌⊎◌, ℕ, ◌*◌, ◌<◌, ◌≤◌, true, nat_le, length, filter}
 use Rattle.std.specs.List.{AllByRecursion}
 use Rattle.rb_base.specs.declared.message.Message.{Message}
@@ -9,11 +9,11 @@ use Rattle.rb_message_defs.specs.Message.{bucket_in, IsMessageOf}
 use Rattle.rb_message_defs.specs.Nodes.{Nodes, node_at, owner_in, buffered, unacknowledged}
 use Rattle.rb_play_defs.specs.Step.{Progress, acknowledged_epoch, worth_logging}
 
--- a message of one of the site's buckets, that is one of its journal
+-- a message of one of the site's buckets that is a message of its journal
 abbrev pub IsOwn : Shape → Journal → Message → Type 0
 IsOwn shape journal message = (bucket_in message < shape.buckets) × IsMessageOf shape journal message
 
--- so many buckets, each with a node and an owner, in whole groups
+-- `buckets` nodes in whole groups, with an owner for each bucket
 pub record AreNodes (buckets : ℕ) (site : Nodes) : Type 0 where
   pub some : 0 < site.replicas
   pub nodes : length site.nodes ≡ buckets
@@ -21,8 +21,9 @@ pub record AreNodes (buckets : ℕ) (site : Nodes) : Type 0 where
   pub groups : ℕ
   pub whole : groups * site.replicas ≡ buckets
 
--- epochs come in order; all that was sent and received is the journal's; the last taken epoch is a closed one, or there is none;
--- and of the closed epochs up to it, those that have something to log are written
+-- a site is sound: its epochs are in order; all sent and received messages are the journal's; the
+-- last taken epoch is closed, or none was taken; and the logged bodies are those of all closed
+-- epochs up to it that have something to log
 pub record IsSound (shape : Shape) (run : Progress) : Type 0 where
   pub order : InOrder run.opened run.journal
   pub some : 0 < shape.buckets
@@ -32,7 +33,8 @@ pub record IsSound (shape : Shape) (run : Progress) : Type 0 where
   pub nodes : AreNodes shape.buckets run.nodes
   pub written : run.written ≡ length (worth_logging shape run.journal (filter (λ epoch. nat_le epoch run.last) (closed_epochs run.journal)))
 
--- the owner of a bucket is up, and has buffered since this epoch or longer: it has all that is not acknowledged of the bucket
+-- the owner of a bucket is up and has buffered since this epoch or an earlier one, so it holds
+-- every message of the bucket that is not acknowledged
 pub record CanSendAgain (shape : Shape) (run : Progress) (bucket epoch : ℕ) : Type 0 where
   pub up : (node_at run.nodes (owner_in run.nodes bucket)).up ≡ true
   pub since : (node_at run.nodes (owner_in run.nodes bucket)).since ≤ epoch

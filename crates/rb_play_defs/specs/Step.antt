@@ -1,4 +1,4 @@
--- What an event does at a site, and what it answers.
+-- What each event does at a site, and its outcome.
 use Rattle.std.specs.Prelude.{ℕ, ◌+◌, ◌*◌, ◌/◌, Bool, true, false, if◌then◌else◌, List, [], ◌∷◌, ◌++◌, length, filter, map, fold, count_by, Option, Some, None, unwrap_or}
 use Rattle.std.specs.List.{flat_map, last_or, scan, slice_get}
 use Rattle.std.specs.Option.{option_map_or}
@@ -25,9 +25,11 @@ use Rattle.rb_message_defs.specs.Taken.{taken_epochs}
 use Rattle.rb_play_defs.specs.declared.event.SiteEvent.{SiteEvent}
 use Rattle.rb_play_defs.specs.declared.event.SiteEvent.TheVariants.{Tx, Close, Deliver, DeliverAll, Inject, Fail, Restart, Resend, Injector}
 
--- a site within a run: its journal, its open epoch, how many transactions it has numbered; all messages that its nodes sent, and
--- the places of those that were delivered; the messages that the event buffer received, the newest first, the last epoch that was
--- taken from it, and how many bodies are written; its nodes, and the first group that it lost, with the epoch that was needed then
+-- the state of a site in a run: its journal, its open epoch, and the number of transactions so far;
+-- all messages that its nodes sent, and the places of those that were delivered; the messages that
+-- the event buffer received, the newest first, the last epoch that was taken from it, and the
+-- number of logged bodies; the site's nodes; and the first group that it lost, with the epoch that
+-- was needed at that time
 pub record Progress : Type 0 where
   pub journal : Journal
   pub opened : ℕ
@@ -40,7 +42,8 @@ pub record Progress : Type 0 where
   pub nodes : Nodes
   pub lost : Option (ℕ × ℕ)
 
--- so many groups of so many nodes each at the start: all are up, and each owns the bucket of its number
+-- the nodes of a new site, `groups` groups of `replicas` nodes: all are up, and each owns the
+-- bucket with its number
 abbrev pub nodes_at_first : (groups replicas : ℕ) → Nodes
 nodes_at_first groups replicas = record {
   replicas = replicas;
@@ -48,7 +51,7 @@ nodes_at_first groups replicas = record {
   owners = numbers_below (groups * replicas);
 }
 
--- a site at the start
+-- the state of a new site
 abbrev pub beginning : (groups replicas : ℕ) → Progress
 beginning groups replicas = record {
   journal = [];
@@ -63,35 +66,36 @@ beginning groups replicas = record {
   lost = None;
 }
 
--- where a run has come, and what the last event answered
-pub record Stepped : Type 0 where
+-- the state after an event, and the event's outcome
+pub record StepResult : Type 0 where
   pub run : Progress
   pub outcome : Outcome
 
--- what an event does that changes nothing
-abbrev pub unchanged : Progress → Outcome → Stepped
+-- the result of an event that changes nothing
+abbrev pub unchanged : Progress → Outcome → StepResult
 unchanged run outcome = record { run = run; outcome = outcome }
 
--- the row of each key
+-- the row of each key of each table
 abbrev pub rows_of : Shape → Progress → ℕ → ℕ → Option Row
 rows_of shape run table key = row_at shape.site table key run.journal
 
--- the answer to a refused transaction
+-- the outcome of a refused transaction
 abbrev pub refused : Refusal → Outcome
 refused (RowTwice number) = outcomes.RowTwice number
 refused (KeyThere number) = outcomes.KeyThere number
 refused (NoKey number) = outcomes.NoKey number
 
--- the changes of a client's transaction that is accepted
+-- the changes of a client's transaction, if it is accepted
 abbrev pub tx_changes : Shape → List ClientOp → Progress → List Change
 tx_changes shape operations run = changes_made (rows_of shape run) (server_of shape.site) (run.drawn + 1) operations
 
--- the messages that its commit sends
+-- the messages that the commit of this transaction sends
 abbrev pub tx_messages : Shape → List ClientOp → Progress → List Message
 tx_messages shape operations run =
     parts_sent shape.buckets run.opened (changes_in shape.site run.opened run.journal) (tx_changes shape operations run)
 
--- the site behind it: the transaction is in the journal, and its changes are sent by the owners of their buckets
+-- the site after the commit: the transaction is in the journal, and the owners of the buckets have
+-- sent its changes
 abbrev pub committed : Shape → List ClientOp → Progress → Progress
 committed shape operations run = record run {
   journal = Client run.opened (run.drawn + 1) (tx_changes shape operations run) ∷ run.journal;
@@ -99,13 +103,13 @@ committed shape operations run = record run {
   sent = run.sent ++ map (sent_by (owner_in run.nodes)) (tx_messages shape operations run);
 }
 
--- the answer to an accepted transaction
+-- the outcome of an accepted transaction
 abbrev pub commit_outcome : Progress → Outcome
 commit_outcome run =
     outcomes.Committed run.drawn (record { 0 = run.opened }) (length run.sent)
 
--- a client's transaction: it is refused, and changes nothing, or accepted
-unfoldable pub tx_step : Shape → List ClientOp → Progress → Stepped
+-- a client's transaction: it is either refused, which changes nothing, or committed
+unfoldable pub tx_step : Shape → List ClientOp → Progress → StepResult
 tx_step shape operations run =
     option_map_or (λ refusal. unchanged run (refused refusal)) (refusal_of (rows_of shape run) operations)
     (record { run = committed shape operations run; outcome = commit_outcome (committed shape operations run) })
@@ -114,33 +118,35 @@ tx_step shape operations run =
 abbrev pub last_epoch : List EpochBody → ℕ
 last_epoch bodies = unwrap_or (last_or None (map (λ body. body.epoch.0) bodies)) 0
 
--- the bodies that a site has written
+-- the bodies that a site has logged
 abbrev pub written_bodies : Shape → Progress → List EpochBody
 written_bodies shape run = logged_bodies shape run.written run.journal
 
--- the epoch that is acknowledged: the last one that is written
+-- the acknowledged epoch: the last one that is logged, or 0
 abbrev pub acknowledged_epoch : Shape → Progress → ℕ
 acknowledged_epoch shape run = last_epoch (written_bodies shape run)
 
--- the epoch that is needed
+-- the needed epoch of a site
 abbrev pub needed_of : Shape → Progress → ℕ
 needed_of shape run = needed_epoch (acknowledged_epoch shape run) run.opened run.journal
 
--- what a node sends again of a bucket
+-- what a node resends of a bucket: all its messages that are not acknowledged
 abbrev pub sent_again : Shape → Progress → (sender bucket : ℕ) → List Sent
 sent_again shape run sender bucket = sent_from sender (unacknowledged shape (acknowledged_epoch shape run) run.opened run.journal bucket)
 
--- the site whose open epoch is closed, before anything is sent
+-- the site with its open epoch closed, before any message is sent
 abbrev pub only_closed : (gci : Bool) → Progress → Progress
 only_closed gci run = record run { journal = Closed run.opened ∷ run.journal; opened = epoch_after gci run.opened }
 
--- what a group sends at a close: the owners tell the ends of its buckets, and the home nodes that get theirs back send them again
+-- the messages that a group sends at a close: the owners send the Done of each bucket, and home
+-- nodes to which buckets return resend those buckets
 abbrev pub sent_at_close : Shape → (before after : Progress) → (group : ℕ) → List Sent
 sent_at_close shape before after group =
     map (λ bucket. sent_by (owner_in before.nodes) (done_message shape before.opened bucket before.journal)) (numbers_in before.nodes group)
     ++ flat_map (λ bucket. sent_again shape after bucket bucket) (filter (returns before.nodes (needed_of shape after)) (numbers_in before.nodes group))
 
--- the open epoch closes, group by group, and the next epoch opens
+-- the site after its open epoch closed: each group has sent its messages, the buckets that can
+-- return are at their home nodes, and the next epoch is open
 abbrev pub closed : Shape → (gci : Bool) → Progress → Progress
 closed shape gci run =
     let after = only_closed gci run in
@@ -149,62 +155,64 @@ closed shape gci run =
       nodes = with_returns (needed_of shape after) run.nodes;
     }
 
--- the same, with its answer
-unfoldable pub close_step : Shape → (gci : Bool) → Progress → Stepped
+-- a close and its outcome
+unfoldable pub close_step : Shape → (gci : Bool) → Progress → StepResult
 close_step shape gci run = record {
   run = closed shape gci run;
   outcome = outcomes.Closed (record { 0 = run.opened }) (length (closed shape gci run).sent);
 }
 
--- a node that fails: its buckets go to its successor, which sends them again
+-- the site after a node failed and its successor took over its buckets and resent them
 abbrev pub taken_over : Shape → (node successor : ℕ) → Progress → Progress
 taken_over shape node successor run = record run {
   nodes = with_owner node successor (with_failure node (length run.sent) run.nodes);
   sent = run.sent ++ flat_map (sent_again shape run successor) (owned_by run.nodes node);
 }
 
--- the same, with its answer
-abbrev pub takeover_step : Shape → (node successor : ℕ) → Progress → Stepped
+-- a takeover and its outcome
+abbrev pub takeover_step : Shape → (node successor : ℕ) → Progress → StepResult
 takeover_step shape node successor run = record {
   run = taken_over shape node successor run;
   outcome = outcomes.Failed (length (owned_by run.nodes node)) (length (taken_over shape node successor run).sent);
 }
 
--- a node whose group has no other one that covers: the group is lost
-abbrev pub loss_step : Shape → (node : ℕ) → Progress → Stepped
+-- the failure of a node in whose group no other node covers: the group is lost
+abbrev pub loss_step : Shape → (node : ℕ) → Progress → StepResult
 loss_step shape node run = record {
   run = record run { nodes = with_failure node (length run.sent) run.nodes; lost = Some (group_of run.nodes node, needed_of shape run) };
   outcome = outcomes.Lost (group_of run.nodes node) (record { 0 = needed_of shape run });
 }
 
--- a node fails, where it is up
-unfoldable pub fail_step : Shape → (node : ℕ) → Progress → Stepped
+-- the failure of a node, if the node is up
+unfoldable pub fail_step : Shape → (node : ℕ) → Progress → StepResult
 fail_step shape node run =
     if (node_at run.nodes node).up
     then option_map_or (λ successor. takeover_step shape node successor run) (successor_of run.nodes (needed_of shape run) node) (loss_step shape node run)
     else unchanged run (outcomes.NodeDown node)
 
--- a node starts again, where it is down: its buffer is empty, and begins behind the open epoch
-unfoldable pub restart_step : (node : ℕ) → Progress → Stepped
+-- the restart of a node, if the node is down: its buffer is empty, and begins with the epoch after
+-- the open one
+unfoldable pub restart_step : (node : ℕ) → Progress → StepResult
 restart_step node run =
     if (node_at run.nodes node).up then unchanged run (outcomes.NodeUp node)
     else record { run = record run { nodes = with_restart node run.opened run.nodes }; outcome = outcomes.Restarted (record { 0 = run.opened + 1 }) }
 
--- what all owners send again of their buckets, bucket 0 first
+-- what all owners resend of their buckets, bucket 0 first
 abbrev pub sent_by_owners : Shape → Progress → List Sent
 sent_by_owners shape run = flat_map (λ bucket. sent_again shape run (owner_in run.nodes bucket) bucket) (numbers_below shape.buckets)
 
--- every owner sends its buckets again
-unfoldable pub resend_step : Shape → Progress → Stepped
+-- a resend of every bucket by its owner, and its outcome
+unfoldable pub resend_step : Shape → Progress → StepResult
 resend_step shape run =
     let sent = run.sent ++ sent_by_owners shape run in
     record { run = record run { sent = sent }; outcome = outcomes.Resent (length sent) }
 
--- what they send to a new injector, which they cannot where a group is lost
+-- what the owners resend to a new injector; nothing if a group is lost
 abbrev pub sent_to_injector : Shape → Progress → List Sent
 sent_to_injector shape run = option_map_or (λ loss. []) run.lost (sent_by_owners shape run)
 
--- the injector stopped, and its log was opened again: its event buffer is empty, and waits behind the last epoch that is written
+-- the site after its injector stopped and recovered: the event buffer is empty, and the last taken
+-- epoch is the last logged one
 abbrev pub with_new_injector : Shape → Progress → Progress
 with_new_injector shape run = record run {
   received = [];
@@ -212,60 +220,60 @@ with_new_injector shape run = record run {
   sent = run.sent ++ sent_to_injector shape run;
 }
 
--- the same, with its answer
-unfoldable pub injector_step : Shape → Progress → Stepped
+-- the restart of the injector and its outcome
+unfoldable pub injector_step : Shape → Progress → StepResult
 injector_step shape run = record {
   run = with_new_injector shape run;
   outcome = outcomes.Recovered (record { 0 = acknowledged_epoch shape run }) (length (with_new_injector shape run).sent);
 }
 
--- an event that a lost site refuses
-abbrev pub unless_lost : Progress → Stepped → Stepped
+-- an event that a site with a lost group refuses
+abbrev pub unless_lost : Progress → StepResult → StepResult
 unless_lost run step = option_map_or (λ loss. unchanged run (outcomes.SiteLost loss.0 (record { 0 = loss.1 }))) run.lost step
 
--- what the event buffer was fed
+-- the history of the event buffer
 abbrev pub fed_by : Shape → Progress → Fed
 fed_by shape run = record { buckets = shape.buckets; last = run.last; received = run.received }
 
--- a message at this place reaches the event buffer
+-- the site after the message at this place reached the event buffer
 abbrev pub delivered_message : (place : ℕ) → Message → Progress → Progress
 delivered_message place message run = record run { delivered = place ∷ run.delivered; received = message ∷ run.received }
 
--- what the event buffer answers to a message
+-- the outcome of the delivery of one message
 abbrev pub answer_outcome : Received → Outcome
 answer_outcome answers.Kept = outcomes.Kept
 answer_outcome answers.Known = outcomes.Known
 answer_outcome answers.Old = outcomes.Old
 
--- the delivery of a place, where there is a message
-unfoldable pub deliver_step : Shape → (place : ℕ) → Progress → Stepped
+-- the delivery of the message at a place, if there is one
+unfoldable pub deliver_step : Shape → (place : ℕ) → Progress → StepResult
 deliver_step shape place run =
     option_map_or (λ sent. record {
       run = delivered_message place sent.message run;
       outcome = answer_outcome (answer_to (fed_by shape run) sent.message);
     }) (slice_get run.sent place) (unchanged run (outcomes.NoMessage place (length run.sent)))
 
--- how many messages were sent when a node last failed
+-- how many messages the site had sent when this node last failed
 abbrev pub failed_in : Progress → (node : ℕ) → ℕ
 failed_in run node = (node_at run.nodes node).failed_at
 
--- the places that were never delivered, but for those whose sender failed since
+-- the places of the messages that were never delivered and whose sender has not failed since
 abbrev pub undelivered : Progress → List ℕ
 undelivered run = waiting_places (failed_in run) run.sent run.delivered
 
--- the site behind the delivery of a place
+-- the site after the delivery of one place
 abbrev pub after_delivery : Shape → Progress → (place : ℕ) → Progress
 after_delivery shape run place = (deliver_step shape place run).run
 
--- the site behind the delivery of these places, in order
+-- the site after the delivery of these places, in order
 abbrev pub all_delivered : Shape → List ℕ → Progress → Progress
 all_delivered shape places run = fold (after_delivery shape) run places
 
--- what the event buffer answers to each of them
+-- the outcome of each of these deliveries
 abbrev pub delivery_outcomes : Shape → List ℕ → Progress → List Outcome
 delivery_outcomes shape places run = scan (after_delivery shape) (λ before place. (deliver_step shape place before).outcome) run places
 
--- how many of these answers were kept, known and old
+-- how many messages of a delivery were kept, known and old
 pub record Answers : Type 0 where
   pub kept : ℕ
   pub known : ℕ
@@ -283,11 +291,11 @@ abbrev pub is_old : Outcome → Bool
 is_old outcomes.Old = true
 is_old outcome = false
 
--- the counts of these answers
+-- the counts for these outcomes
 abbrev pub answers_in : List Outcome → Answers
 answers_in outcomes = record { kept = count_by is_kept outcomes; known = count_by is_known outcomes; old = count_by is_old outcomes }
 
--- the delivery of every message that was never delivered and whose sender did not fail since
+-- the delivery of every message that was never delivered and whose sender has not failed since
 pub record Delivery : Type 0 where
   pub run : Progress
   pub answers : Answers
@@ -298,8 +306,8 @@ delivery_of_all shape run = record {
   answers = answers_in (delivery_outcomes shape (undelivered run) run);
 }
 
--- the same, with its answer
-unfoldable pub deliver_all_step : Shape → Progress → Stepped
+-- a delivery of all messages and its outcome
+unfoldable pub deliver_all_step : Shape → Progress → StepResult
 deliver_all_step shape run =
     let delivery = delivery_of_all shape run in
     record { run = delivery.run; outcome = outcomes.Delivered delivery.answers.kept delivery.answers.known delivery.answers.old }
@@ -308,31 +316,33 @@ deliver_all_step shape run =
 abbrev pub takeable : Shape → Progress → List ℕ
 takeable shape run = taken_epochs (fed_by shape run) run.journal
 
--- those among these epochs that have something to log
+-- the epochs among these that have something to log
 abbrev pub worth_logging : Shape → Journal → List ℕ → List ℕ
 worth_logging shape journal epochs = filter (λ epoch. has_something_to_log (body_of shape epoch journal)) epochs
 
--- the site behind one epoch that is taken, and written where it has something to log
+-- the site after one epoch was taken, and logged if it has something to log
 abbrev pub with_taken : Shape → Progress → (epoch : ℕ) → Progress
 with_taken shape run epoch = record run { last = epoch; written = run.written + length (worth_logging shape run.journal (epoch ∷ [])) }
 
--- the site behind the injector's turn: every whole epoch is taken, and those with something to log are written
+-- the site after an `inject` event: the epochs up to the first one that is not whole are taken, and
+-- those with something to log are logged
 abbrev pub injected : Shape → Progress → Progress
 injected shape run = record run {
   last = unwrap_or (last_or None (takeable shape run)) run.last;
   written = run.written + length (worth_logging shape run.journal (takeable shape run));
 }
 
--- what the injector's turn amounts to: how many epochs it wrote, the last one that is written, and what is missing then
+-- the result of an `inject` event: the number of epochs that it logged, the last logged epoch, and
+-- the first message that is missing of the next epoch
 pub record Injection : Type 0 where
   pub run : Progress
   pub count : ℕ
   pub written : ℕ
   pub missing : Missing
 
--- what is missing, where the next epoch is not whole
-abbrev pub missing_behind : Shape → Progress → Missing
-missing_behind shape run = unwrap_or (missing_of (fed_by shape run)) (record { bucket = 0; place = None })
+-- the first message that is missing of the next epoch, which is not whole
+abbrev pub missing_after : Shape → Progress → Missing
+missing_after shape run = unwrap_or (missing_of (fed_by shape run)) (record { bucket = 0; place = None })
 
 unfoldable pub injection_of : Shape → Progress → Injection
 injection_of shape run =
@@ -340,19 +350,19 @@ injection_of shape run =
       run = after;
       count = length (worth_logging shape run.journal (takeable shape run));
       written = last_epoch (written_bodies shape after);
-      missing = missing_behind shape after;
+      missing = missing_after shape after;
     }
 
--- the same, with its answer
-unfoldable pub inject_step : Shape → Progress → Stepped
+-- an `inject` event and its outcome
+unfoldable pub inject_step : Shape → Progress → StepResult
 inject_step shape run =
     let injection = injection_of shape run in record {
       run = injection.run;
       outcome = outcomes.Wrote injection.count (record { 0 = injection.written }) injection.missing.bucket injection.missing.place;
     }
 
--- an event at the site
-unfoldable pub site_step : Shape → Progress → SiteEvent → Stepped
+-- an event at the site, and its outcome
+unfoldable pub site_step : Shape → Progress → SiteEvent → StepResult
 site_step shape run (Tx operations) = unless_lost run (tx_step shape operations run)
 site_step shape run (Close gci) = unless_lost run (close_step shape gci run)
 site_step shape run (Deliver place) = deliver_step shape place run

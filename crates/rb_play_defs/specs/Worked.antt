@@ -1,4 +1,4 @@
--- Worked examples of whole scripts, with the reports that were worked out by hand.
+-- Worked examples of whole scripts, with reports that were worked out by hand.
 use Rattle.std.specs.Prelude.{◌≡◌, ℕ, List, [], ◌∷◌, codes, Result, Ok, Err}
 use Rattle.rb_text_defs.specs.declared.script.BadLine.{BadLine}
 use Rattle.rb_text_defs.specs.declared.script.ScriptKind.{ScriptKind}
@@ -7,7 +7,7 @@ use Rattle.rb_text_defs.specs.Report.{text_of_lines}
 use Rattle.rb_text_defs.specs.Script.{script_of}
 use Rattle.rb_play_defs.specs.Play.{report_of}
 
--- the report of a script, where it is legal
+-- the report of a script, or no text if the script is refused
 abbrev pub report_if_legal : Result Script BadLine → List ℕ
 report_if_legal (Ok script) = report_of script
 report_if_legal (Err bad) = []
@@ -16,7 +16,7 @@ report_if_legal (Err bad) = []
 abbrev pub report_of_lines : List (List ℕ) → List ℕ
 report_of_lines lines = report_if_legal (script_of (text_of_lines lines))
 
--- the first path
+-- the first worked example: two inserts in one epoch
 abbrev pub the_first_path_script : List (List ℕ)
 the_first_path_script =
     codes "table t num"
@@ -40,7 +40,7 @@ the_first_path_report =
     ∷ codes "row 6 8"
     ∷ codes "end" ∷ []
 
--- empty epochs
+-- two epochs with empty epochs between them
 abbrev pub empty_epochs_script : List (List ℕ)
 empty_epochs_script =
     codes "table t num"
@@ -73,7 +73,7 @@ empty_epochs_report =
     ∷ codes "row 2 2"
     ∷ codes "end" ∷ []
 
--- refused transactions
+-- transactions that are refused
 abbrev pub refused_transactions_script : List (List ℕ)
 refused_transactions_script =
     codes "table t num"
@@ -97,7 +97,7 @@ refused_transactions_report =
     ∷ codes "row 5 1"
     ∷ codes "end" ∷ []
 
--- order and repeats
+-- messages out of order and repeated
 abbrev pub order_and_repeats_script : List (List ℕ)
 order_and_repeats_script =
     codes "table t num"
@@ -133,7 +133,7 @@ order_and_repeats_report =
     ∷ codes "row 6 8"
     ∷ codes "end" ∷ []
 
--- lost first
+-- an epoch that is delivered before the one before it
 abbrev pub lost_first_script : List (List ℕ)
 lost_first_script =
     codes "table t num"
@@ -198,7 +198,7 @@ two_nodes_report =
     ∷ codes "row 3 30"
     ∷ codes "end" ∷ []
 
--- a takeover in an open epoch
+-- a takeover during an open epoch
 abbrev pub takeover_script : List (List ℕ)
 takeover_script =
     codes "site A groups 1 replicas 2 limit 1048576"
@@ -263,7 +263,7 @@ lost_group_report =
     ∷ codes "row 1 10"
     ∷ codes "end" ∷ []
 
--- a resend
+-- owners that resend
 abbrev pub resend_script : List (List ℕ)
 resend_script =
     codes "table t num"
@@ -288,7 +288,7 @@ resend_report =
     ∷ codes "row 1 1"
     ∷ codes "end" ∷ []
 
--- a bucket that goes home
+-- a bucket that returns to its home node
 abbrev pub return_script : List (List ℕ)
 return_script =
     codes "site A groups 1 replicas 2 limit 1048576"
@@ -391,7 +391,7 @@ rotation_report =
     ∷ codes "row 1 3"
     ∷ codes "end" ∷ []
 
--- an injector that stops behind an empty epoch
+-- an injector that stops after an empty epoch
 abbrev pub injector_script : List (List ℕ)
 injector_script =
     codes "table t num"
@@ -424,6 +424,6 @@ injector_report =
     ∷ codes "row 2 2"
     ∷ codes "end" ∷ []
 
--- how these lines are refused: the first bad line, and what is wrong with it
+-- these lines are refused: their first bad line is this line, for this reason
 abbrev pub are_refused : List (List ℕ) → (line : ℕ) → ScriptKind → Type 0
 are_refused lines line kind = script_of (text_of_lines lines) ≡ Err (record { line = line; kind = kind })

@@ -1,8 +1,8 @@
-//! What a script means: what its events do at a site, one by one, what they answer, the bodies that are logged, and the
-//! report of the run.
+//! The meaning of a script: what its events do at a site, one by one, their outcomes, the bodies
+//! that are logged, and the report of the run.
 //!
-//! Definitions in `specs/` over those of the journal, the messages, the log and the texts, and laws of them in `proofs/`.
-//! The site's step and the top call cite them.
+//! The definitions are in `specs/`, over those of the journal, the messages, the log and the texts;
+//! laws about them are in `proofs/`. The site's step and the top call cite them.
 #![tactic(auto)]
 
 mod event;

@@ -13,7 +13,8 @@ texts_of_each g [] = refl
 texts_of_each g (x ∷ xs) =
     flat_map-append (λ line. line ++ 10 ∷ []) (g x) (flat_map g xs) ∙ ap (λ text. text_of_lines (g x) ++ text) (texts_of_each g xs)
 
--- the report is its title, the line of each event, the lines of the log, those of each table, and its end
+-- the report is its title, the line of each event, the lines of the log, those of each table, and
+-- its end
 pub report_pieces : (outcomes : List (ℕ × Outcome)) (log : LogRows) (tables : List NamedRows) → report_text outcomes log tables
     ≡ text_of_lines (codes "ndb replication report" ∷ [])
     ++ (flat_map (λ lined. outcome_line lined.0 lined.1 ++ 10 ∷ []) outcomes

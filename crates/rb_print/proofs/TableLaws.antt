@@ -62,5 +62,5 @@ searched_none (table ∷ tables) id i up within parted = go (table ∷ tables) (
     go : (all : List Mapped) → IsPartitionPoint (λ t. nat_cmp t.id id ≡ Less) (λ t. nat_cmp t.id id ≡ Greater) all i → i ≤ length all → find (λ t. t.id == id) all ≡ None
     go all parts within = absent all id table (λ k inside same. elim (cases_lt k i) [
       | inl before ↦ let less : (get_or all k table).id < id = ranked _ id _ (sym (parts.0 k table (omega arith) before)) in omega arith
-      | inr behind ↦ let more : id < (get_or all k table).id = ranked _ id _ (sym (parts.1 k table behind inside)) in omega arith
+      | inr following ↦ let more : id < (get_or all k table).id = ranked _ id _ (sym (parts.1 k table following inside)) in omega arith
     ])

@@ -4,12 +4,12 @@ use Rattle.std.specs.List.{concat, flat_map}
 use Rattle.std.proofs.lemmas.List.{take_more, map_more, flat_map_more}
 
 -- a piece, and a last one
-pub behind_one : (old first last : List ℕ) → (old ++ first) ++ last ≡ old ++ concat (first ∷ last ∷ [])
-behind_one old first last = append_assoc old first last ∙ ap (λ text. old ++ (first ++ text)) (sym (append-nil last))
+pub after_one : (old first last : List ℕ) → (old ++ first) ++ last ≡ old ++ concat (first ∷ last ∷ [])
+after_one old first last = append_assoc old first last ∙ ap (λ text. old ++ (first ++ text)) (sym (append-nil last))
 
 -- two pieces, and a last one
-pub behind_two : (old first next last : List ℕ) → ((old ++ first) ++ next) ++ last ≡ old ++ concat (first ∷ next ∷ last ∷ [])
-behind_two old first next last = append_assoc (old ++ first) next last ∙ append_assoc old first (next ++ last) ∙ ap (λ text. old ++ (first ++ (next ++ text))) (sym (append-nil last))
+pub after_two : (old first next last : List ℕ) → ((old ++ first) ++ next) ++ last ≡ old ++ concat (first ∷ next ∷ last ∷ [])
+after_two old first next last = append_assoc (old ++ first) next last ∙ append_assoc old first (next ++ last) ∙ ap (λ text. old ++ (first ++ (next ++ text))) (sym (append-nil last))
 
 -- one more piece of a text
 one_more_piece : {X : Type 0} (f : X → List ℕ) (old : List ℕ) (xs : List X) (i : ℕ) (d : X) → i < length xs
@@ -17,12 +17,12 @@ one_more_piece : {X : Type 0} (f : X → List ℕ) (old : List ℕ) (xs : List X
 one_more_piece f old xs i d lt = flat_map_more f old (take i xs) (get_or xs i d) ∙ ap (λ items. old ++ flat_map f items) (sym (take_more xs i d lt))
 
 -- four pieces, and a last one
-pub behind_four : (old a b c d last : List ℕ) → ((((old ++ a) ++ b) ++ c) ++ d) ++ last ≡ old ++ concat (a ∷ b ∷ c ∷ d ∷ last ∷ [])
-behind_four old a b c d last = simp (append_assoc, append-nil)
+pub after_four : (old a b c d last : List ℕ) → ((((old ++ a) ++ b) ++ c) ++ d) ++ last ≡ old ++ concat (a ∷ b ∷ c ∷ d ∷ last ∷ [])
+after_four old a b c d last = simp (append_assoc, append-nil)
 
 -- eight pieces, and a last one
-pub behind_eight : (old a b c d e f g h last : List ℕ) → ((((((((old ++ a) ++ b) ++ c) ++ d) ++ e) ++ f) ++ g) ++ h) ++ last ≡ old ++ concat (a ∷ b ∷ c ∷ d ∷ e ∷ f ∷ g ∷ h ∷ last ∷ [])
-behind_eight old a b c d e f g h last = simp (append_assoc, append-nil)
+pub after_eight : (old a b c d e f g h last : List ℕ) → ((((((((old ++ a) ++ b) ++ c) ++ d) ++ e) ++ f) ++ g) ++ h) ++ last ≡ old ++ concat (a ∷ b ∷ c ∷ d ∷ e ∷ f ∷ g ∷ h ∷ last ∷ [])
+after_eight old a b c d e f g h last = simp (append_assoc, append-nil)
 
 concat_end : (pieces : List (List ℕ)) (last : List ℕ) → concat (pieces ++ last ∷ []) ≡ concat pieces ++ last
 concat_end [] last = append-nil last
@@ -40,7 +40,7 @@ pub pieces_mapped : {X Y : Type 0} (f : Y → List ℕ) (g : X → Y) (xs : List
 pieces_mapped f g [] = refl
 pieces_mapped f g (x ∷ xs) = ap (λ text. f (g x) ++ text) (pieces_mapped f g xs)
 
--- one more item is put behind what is put of those before it
+-- one more item is put after what is put of those before it
 pub one_more_put : {X : Type 0} (f : X → List ℕ) (old text now : List ℕ) (xs : List X) (i : ℕ) (d : X) → i < length xs → text ≡ old ++ flat_map f (take i xs)
     → now ≡ text ++ f (get_or xs i d) → now ≡ old ++ flat_map f (take (i + 1) xs)
 one_more_put f old text now xs i d lt before put = put ∙ ap (λ text. text ++ f (get_or xs i d)) before ∙ one_more_piece f old xs i d lt

@@ -3,7 +3,7 @@ use Rattle.std.specs.Prelude.{Bool, true, false}
 use Rattle.rb_base.specs.declared.outcome.Outcome.{Outcome}
 use Rattle.rb_base.specs.declared.outcome.Outcome.TheVariants as outcomes
 
--- a client, the open epoch, the messages, or what the injector writes
+-- an outcome of a client, the open epoch, the messages, or what the injector writes
 abbrev pub is_of_site : Outcome → Bool
 is_of_site (outcomes.Committed transid epoch sent) = true
 is_of_site (outcomes.RowTwice number) = true
@@ -19,7 +19,7 @@ is_of_site (outcomes.Wrote count written bucket place) = true
 is_of_site (outcomes.Logged kept known old count written bucket place) = true
 is_of_site outcome = false
 
--- data nodes that fail and start again, and what is lost or sent again with them
+-- an outcome of data nodes that fail and restart, and of what is lost or resent with them
 abbrev pub is_of_nodes : Outcome → Bool
 is_of_nodes (outcomes.Failed takeover sent) = true
 is_of_nodes (outcomes.Lost group epoch) = true

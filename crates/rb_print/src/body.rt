@@ -8,8 +8,8 @@ use crate::value::{put_bytes, put_joined};
 use rb_base::{Bytes, Change, EpochBody, Kind, Mapped, NoMemory, Row};
 use std::alloc::Global;
 
-/// The line of an epoch of a log, and a line for each of its changes, each with its line feed. `end` is where the epoch
-/// ends, in bytes from the file's start. It fails only for want of memory.
+/// Returns the line of an epoch of a log, and a line for each of its changes, each with its line
+/// feed. `end` is the epoch's end, in bytes from the file's start. The only error is `NoMemory`.
 #[tactic(auto, unfolding(rb_text_defs::specs::LogText::body_text), using(crate::proofs::TextLaws::pieces_mapped))]
 pub fn print_body(alloc: Global, body: &EpochBody, end: u64) -> Result<Bytes, NoMemory>
     requires ascending { Ascend body.now.tables }
@@ -22,8 +22,8 @@ pub fn print_body(alloc: Global, body: &EpochBody, end: u64) -> Result<Bytes, No
     Ok(Bytes::from_vec(text))
 }
 
-/// The line of a rotation, with its line feed: where the log goes on, by the next file's name and a position in it, in
-/// bytes from its start. It fails only for want of memory.
+/// Returns the line of a rotation, with its line feed: the next file's name, and the position in it
+/// at which the log continues, in bytes from its start. The only error is `NoMemory`.
 #[tactic(auto, unfolding(rb_text_defs::specs::LogText::rotate_line))]
 pub fn print_rotation(alloc: Global, position: u64, name: &[u8]) -> Result<Bytes, NoMemory>
     ensures { IfOk result (λ text. text ≡ rotate_line position name.now ++ 10 ∷ []) }
@@ -36,8 +36,8 @@ pub fn print_rotation(alloc: Global, position: u64, name: &[u8]) -> Result<Bytes
     Ok(Bytes::from_vec(text))
 }
 
-/// The line at the end of a log, with its line feed. `rest` is how many bytes stand behind the last event that stands
-/// outside an epoch or ends one. It fails only for want of memory.
+/// Returns the line at the end of a log, with its line feed. `rest` is how many bytes follow the
+/// last event outside an epoch or at an epoch's end. The only error is `NoMemory`.
 #[tactic(auto, unfolding(rb_text_defs::specs::LogText::rest_line))]
 pub fn print_rest(alloc: Global, rest: u64) -> Result<Bytes, NoMemory>
     ensures { IfOk result (λ text. text ≡ rest_line rest ++ 10 ∷ []) }
@@ -65,7 +65,7 @@ fn put_epoch(text: &mut Vec<u8>, body: &EpochBody, end: u64) -> Result<(), NoMem
     )
 }
 
-/// The number of the epoch that is reflected, or 0.
+/// Returns the number of the reflected epoch, or 0.
 fn reflected_number(body: &EpochBody) -> u64
     ensures { result ≡ reflected_number body.now }
 {
@@ -79,7 +79,8 @@ fn reflected_number(body: &EpochBody) -> u64
 fn put_changes(text: &mut Vec<u8>, tables: &[Mapped], changes: &[Change]) -> Result<(), NoMemory>
     requires ascending { Ascend tables.now }
     ensures { OnOk result (text.new.items
-        ≡ text.old.items ++ flat_map (λ change. change_line tables.now change ++ 10 ∷ []) changes.now) }
+        ≡ text.old.items ++ flat_map (λ change. change_line tables.now change
+        ++ 10 ∷ []) changes.now) }
 {
     for change in changes {
         put_change(text, tables, change)?;
@@ -89,7 +90,7 @@ fn put_changes(text: &mut Vec<u8>, tables: &[Mapped], changes: &[Change]) -> Res
 }
 
 /// Appends the line of a change.
-#[tactic(auto, unfolding(rb_text_defs::specs::LogText::change_line), using(crate::proofs::TextLaws::behind_eight))]
+#[tactic(auto, unfolding(rb_text_defs::specs::LogText::change_line), using(crate::proofs::TextLaws::after_eight))]
 fn put_change(text: &mut Vec<u8>, tables: &[Mapped], change: &Change) -> Result<(), NoMemory>
     requires ascending { Ascend tables.now }
     ensures { OnOk result (text.new.items ≡ text.old.items ++ change_line tables.now change.now) }
@@ -116,8 +117,8 @@ fn kind_name(kind: Kind) -> &'static [u8]
     }
 }
 
-/// Appends the names of the table of an id, and nothing where there is none.
-#[tactic(auto, unfolding(rb_text_defs::specs::LogText::table_text), using(crate::proofs::TextLaws::behind_two))]
+/// Appends the names of the table with this id; nothing if there is none.
+#[tactic(auto, unfolding(rb_text_defs::specs::LogText::table_text), using(crate::proofs::TextLaws::after_two))]
 fn put_table(text: &mut Vec<u8>, tables: &[Mapped], id: u16) -> Result<(), NoMemory>
     requires ascending { Ascend tables.now }
     ensures { OnOk result (text.new.items ≡ text.old.items ++ table_text tables.now id) }
@@ -133,7 +134,7 @@ fn put_table(text: &mut Vec<u8>, tables: &[Mapped], id: u16) -> Result<(), NoMem
     }
 }
 
-/// The table of an id, among tables that may be very many.
+/// Returns the table with this id. There may be very many tables.
 fn find_table(tables: &[Mapped], id: u16) -> Option<&Mapped>
     requires ascending { Ascend tables.now }
     ensures { option_copied result ≡ find (λ table. table.id == id) tables.now }
@@ -144,8 +145,8 @@ fn find_table(tables: &[Mapped], id: u16) -> Option<&Mapped>
     }
 }
 
-/// Appends the image of a row, or a dash where there is none.
-#[tactic(auto, unfolding(rb_text_defs::specs::LogText::image_text), using(crate::proofs::TextLaws::behind_two))]
+/// Appends a row image, or a dash if there is none.
+#[tactic(auto, unfolding(rb_text_defs::specs::LogText::image_text), using(crate::proofs::TextLaws::after_two))]
 fn put_image(text: &mut Vec<u8>, image: &Option<Row>) -> Result<(), NoMemory>
     ensures { OnOk result (text.new.items ≡ text.old.items ++ image_text image.now) }
 {

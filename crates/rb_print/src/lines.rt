@@ -8,8 +8,8 @@ use crate::value::put_row;
 use rb_base::{Bytes, Epoch, IndexRow, NoMemory, Outcome, Row, SiteId};
 use std::alloc::Global;
 
-/// An event's line of the report, with its line feed: the number of its line in the script, and what it did. It fails only
-/// for want of memory.
+/// Returns an event's line of the report, with its line feed: the number of its line in the script,
+/// and what it did. The only error is `NoMemory`.
 pub fn print_outcome(alloc: Global, line: u32, outcome: &Outcome) -> Result<Bytes, NoMemory>
     ensures { IfOk result (λ text. text ≡ outcome_line line outcome.now ++ 10 ∷ []) }
 {
@@ -21,8 +21,8 @@ pub fn print_outcome(alloc: Global, line: u32, outcome: &Outcome) -> Result<Byte
     Ok(Bytes::from_vec(text))
 }
 
-/// The lines of a table: its name and the count of its rows, and a line for each row, each line with its line feed. It
-/// fails only for want of memory.
+/// Returns the lines of a table: its name with the count of its rows, and a line for each row, each
+/// with its line feed. The only error is `NoMemory`.
 #[tactic(auto, using(crate::proofs::TextLaws::pieces_mapped))]
 pub fn print_table(
     alloc: Global,
@@ -30,7 +30,8 @@ pub fn print_table(
     name: &[u8],
     rows: &[Row],
 ) -> Result<Bytes, NoMemory>
-    ensures { IfOk result (λ text. text ≡ text_of_lines (table_lines site (record { name = name.now; rows = rows.now }))) }
+    ensures { IfOk result (λ text. text
+        ≡ text_of_lines (table_lines site (record { name = name.now; rows = rows.now }))) }
 {
     let mut text = Vec::new(alloc);
     put_head(&mut text, site, name, rows.len() as u64)?;
@@ -40,10 +41,11 @@ pub fn print_table(
 }
 
 /// Appends a table's name and the count of its rows.
-#[tactic(auto, using(crate::proofs::TextLaws::behind_four))]
+#[tactic(auto, using(crate::proofs::TextLaws::after_four))]
 fn put_head(text: &mut Vec<u8>, site: SiteId, name: &[u8], count: u64) -> Result<(), NoMemory>
     ensures { OnOk result (text.new.items ≡ text.old.items
-        ++ concat (codes "table " ∷ letter_of site ∷ codes " " ∷ name.now ∷ labelled (codes " rows=") count ∷ [])) }
+        ++ concat (codes "table " ∷ letter_of site ∷ codes " " ∷ name.now ∷ labelled
+        (codes " rows=") count ∷ [])) }
 {
     put(text, b"table ")?;
     put(text, letter(site))?;
@@ -55,7 +57,8 @@ fn put_head(text: &mut Vec<u8>, site: SiteId, name: &[u8], count: u64) -> Result
 
 /// Appends a line for each row.
 fn put_rows(text: &mut Vec<u8>, rows: &[Row]) -> Result<(), NoMemory>
-    ensures { OnOk result (text.new.items ≡ text.old.items ++ flat_map (λ row. row_line row ++ 10 ∷ []) rows.now) }
+    ensures { OnOk result (text.new.items ≡ text.old.items
+        ++ flat_map (λ row. row_line row ++ 10 ∷ []) rows.now) }
 {
     for row in rows {
         put_row(text, row)?;
@@ -64,8 +67,9 @@ fn put_rows(text: &mut Vec<u8>, rows: &[Row]) -> Result<(), NoMemory>
     Ok(())
 }
 
-/// The lines of a site's log, each with its line feed: one that counts its files and epochs, and one for each row of its
-/// index. `files` is how many files the log has. It fails only for want of memory.
+/// Returns the lines of a site's log, each with its line feed: the counts of its files and epochs,
+/// and a line for each row of its index. `files` is the number of its files. The only error is
+/// `NoMemory`.
 #[tactic(auto, using(crate::proofs::TextLaws::pieces_mapped))]
 pub fn print_log(
     alloc: Global,
@@ -73,7 +77,8 @@ pub fn print_log(
     files: u32,
     rows: &[IndexRow],
 ) -> Result<Bytes, NoMemory>
-    ensures { IfOk result (λ text. text ≡ text_of_lines (log_lines site (record { files = files; rows = rows.now }))) }
+    ensures { IfOk result (λ text. text
+        ≡ text_of_lines (log_lines site (record { files = files; rows = rows.now }))) }
 {
     let mut text = Vec::new(alloc);
     put_log(&mut text, site, files, rows)?;
@@ -84,7 +89,8 @@ pub fn print_log(
 
 /// Appends the counts of a log's files and epochs, and its last epoch.
 fn put_log(text: &mut Vec<u8>, site: SiteId, files: u32, rows: &[IndexRow]) -> Result<(), NoMemory>
-    ensures { OnOk result (text.new.items ≡ text.old.items ++ log_line site files (length rows.now) (last_in rows.now)) }
+    ensures { OnOk result (text.new.items ≡ text.old.items
+        ++ log_line site files (length rows.now) (last_in rows.now)) }
 {
     put(text, b"log ")?;
     put(text, letter(site))?;
@@ -99,7 +105,7 @@ fn put_log(text: &mut Vec<u8>, site: SiteId, files: u32, rows: &[IndexRow]) -> R
     Ok(())
 }
 
-/// The epoch of the last row, or epoch 0 where there is none.
+/// Returns the epoch of the last row, or epoch 0 if there is no row.
 fn last_epoch(rows: &[IndexRow]) -> Epoch
     ensures { result.0 ≡ last_in rows.now }
 {
@@ -111,7 +117,8 @@ fn last_epoch(rows: &[IndexRow]) -> Epoch
 
 /// Appends a line for each row of an index.
 fn put_index(text: &mut Vec<u8>, rows: &[IndexRow]) -> Result<(), NoMemory>
-    ensures { OnOk result (text.new.items ≡ text.old.items ++ flat_map (λ row. index_line row ++ 10 ∷ []) rows.now) }
+    ensures { OnOk result (text.new.items ≡ text.old.items
+        ++ flat_map (λ row. index_line row ++ 10 ∷ []) rows.now) }
 {
     for row in rows {
         put_index_row(text, row)?;
@@ -120,7 +127,8 @@ fn put_index(text: &mut Vec<u8>, rows: &[IndexRow]) -> Result<(), NoMemory>
     Ok(())
 }
 
-/// Appends a row of an index: its epoch and GCI, where it stands, and how many changes of each kind it has.
+/// Appends a row of an index: its epoch and GCI, its place in the log, and how many changes of each
+/// kind it has.
 #[tactic(auto, unfolding(rb_text_defs::specs::Report::index_line))]
 fn put_index_row(text: &mut Vec<u8>, row: &IndexRow) -> Result<(), NoMemory>
     ensures { OnOk result (text.new.items ≡ text.old.items ++ index_line row.now) }

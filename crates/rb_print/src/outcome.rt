@@ -50,7 +50,7 @@ pub(crate) fn put_outcome(text: &mut Vec<u8>, outcome: &Outcome) -> Result<(), N
     }
 }
 
-/// Appends what an event of data nodes did, or one of the log's way to the peer.
+/// Appends what an event of data nodes did, or an event of the log's way to the peer.
 #[tactic(auto, unfolding(rb_text_defs::specs::Report::outcome_text))]
 fn put_nodes(text: &mut Vec<u8>, outcome: &Outcome) -> Result<(), NoMemory>
     requires { is_of_site outcome.now ≡ false }
@@ -107,10 +107,11 @@ fn put_stream(text: &mut Vec<u8>, outcome: &Outcome) -> Result<(), NoMemory>
     }
 }
 
-/// A transaction is committed.
+/// Appends that a transaction was committed.
 #[tactic(auto, unfolding(rb_text_defs::specs::Report::outcome_text))]
 fn put_committed(text: &mut Vec<u8>, transid: u64, epoch: Epoch, sent: u64) -> Result<(), NoMemory>
-    ensures { OnOk result (text.new.items ≡ text.old.items ++ outcome_text (outcomes.Committed transid epoch sent)) }
+    ensures { OnOk result (text.new.items ≡ text.old.items
+        ++ outcome_text (outcomes.Committed transid epoch sent)) }
 {
     put_numbers(
         text,
@@ -122,10 +123,11 @@ fn put_committed(text: &mut Vec<u8>, transid: u64, epoch: Epoch, sent: u64) -> R
     )
 }
 
-/// An epoch is closed.
+/// Appends that an epoch was closed.
 #[tactic(auto, unfolding(rb_text_defs::specs::Report::outcome_text))]
 fn put_closed(text: &mut Vec<u8>, epoch: Epoch, sent: u64) -> Result<(), NoMemory>
-    ensures { OnOk result (text.new.items ≡ text.old.items ++ outcome_text (outcomes.Closed epoch sent)) }
+    ensures { OnOk result (text.new.items ≡ text.old.items
+        ++ outcome_text (outcomes.Closed epoch sent)) }
 {
     put_numbers(
         text,
@@ -133,10 +135,11 @@ fn put_closed(text: &mut Vec<u8>, epoch: Epoch, sent: u64) -> Result<(), NoMemor
     )
 }
 
-/// There is no message at a place.
+/// Appends that there is no message at a place.
 #[tactic(auto, unfolding(rb_text_defs::specs::Report::outcome_text))]
 fn put_no_message(text: &mut Vec<u8>, place: u64, sent: u64) -> Result<(), NoMemory>
-    ensures { OnOk result (text.new.items ≡ text.old.items ++ outcome_text (outcomes.NoMessage place sent)) }
+    ensures { OnOk result (text.new.items ≡ text.old.items
+        ++ outcome_text (outcomes.NoMessage place sent)) }
 {
     put_numbers(
         text,
@@ -144,7 +147,7 @@ fn put_no_message(text: &mut Vec<u8>, place: u64, sent: u64) -> Result<(), NoMem
     )
 }
 
-/// Messages are delivered.
+/// Appends how many messages were delivered.
 #[tactic(auto, unfolding(rb_text_defs::specs::Report::outcome_text))]
 fn put_delivered(text: &mut Vec<u8>, kept: u64, known: u64, old: u64) -> Result<(), NoMemory>
     ensures { OnOk result (text.new.items ≡ text.old.items ++ delivered_text kept known old) }
@@ -159,8 +162,8 @@ fn put_delivered(text: &mut Vec<u8>, kept: u64, known: u64, old: u64) -> Result<
     )
 }
 
-/// Epochs are written, and this is the first thing that is missing.
-#[tactic(auto, using(crate::proofs::TextLaws::behind_two))]
+/// Appends how many epochs were written, and the first thing that is missing.
+#[tactic(auto, using(crate::proofs::TextLaws::after_two))]
 fn put_wrote(
     text: &mut Vec<u8>,
     count: u64,
@@ -168,7 +171,8 @@ fn put_wrote(
     bucket: u32,
     place: Option<u32>,
 ) -> Result<(), NoMemory>
-    ensures { OnOk result (text.new.items ≡ text.old.items ++ wrote_text count written bucket place) }
+    ensures { OnOk result (text.new.items ≡ text.old.items
+        ++ wrote_text count written bucket place) }
 {
     put_number(text, b"wrote ", count)?;
     put_number(text, b" written=", written.0)?;
@@ -176,8 +180,8 @@ fn put_wrote(
     Ok(())
 }
 
-/// The same behind a space.
-#[tactic(auto, using(crate::proofs::TextLaws::behind_one))]
+/// Appends a space, and then how many epochs were written.
+#[tactic(auto, using(crate::proofs::TextLaws::after_one))]
 fn put_wrote_too(
     text: &mut Vec<u8>,
     count: u64,
@@ -193,7 +197,7 @@ fn put_wrote_too(
     Ok(())
 }
 
-/// The first thing that an event buffer misses: a bucket, and a place of it or its Done.
+/// Appends the first thing that an event buffer misses: a bucket, and a place of it or its Done.
 fn put_missing(text: &mut Vec<u8>, bucket: u32, place: Option<u32>) -> Result<(), NoMemory>
     ensures { OnOk result (text.new.items ≡ text.old.items ++ missing_text bucket place) }
 {
@@ -210,10 +214,11 @@ fn put_missing(text: &mut Vec<u8>, bucket: u32, place: Option<u32>) -> Result<()
     }
 }
 
-/// A node failed.
+/// Appends that a node failed.
 #[tactic(auto, unfolding(rb_text_defs::specs::Report::outcome_text))]
 fn put_failed(text: &mut Vec<u8>, takeover: u32, sent: u64) -> Result<(), NoMemory>
-    ensures { OnOk result (text.new.items ≡ text.old.items ++ outcome_text (outcomes.Failed takeover sent)) }
+    ensures { OnOk result (text.new.items ≡ text.old.items
+        ++ outcome_text (outcomes.Failed takeover sent)) }
 {
     put_numbers(
         text,
@@ -224,7 +229,7 @@ fn put_failed(text: &mut Vec<u8>, takeover: u32, sent: u64) -> Result<(), NoMemo
     )
 }
 
-/// A node group is lost: a label, the group, and the epoch.
+/// Appends that a node group is lost: a label, the group, and the epoch.
 fn put_lost(text: &mut Vec<u8>, label: &[u8], group: u32, epoch: Epoch) -> Result<(), NoMemory>
     ensures { OnOk result (text.new.items
         ≡ text.old.items ++ concat (labelled label.now group ∷ labelled (codes " ") epoch.0 ∷ [])) }
@@ -235,10 +240,11 @@ fn put_lost(text: &mut Vec<u8>, label: &[u8], group: u32, epoch: Epoch) -> Resul
     )
 }
 
-/// The injector recovered.
+/// Appends that the injector recovered.
 #[tactic(auto, unfolding(rb_text_defs::specs::Report::outcome_text))]
 fn put_recovered(text: &mut Vec<u8>, written: Epoch, sent: u64) -> Result<(), NoMemory>
-    ensures { OnOk result (text.new.items ≡ text.old.items ++ outcome_text (outcomes.Recovered written sent)) }
+    ensures { OnOk result (text.new.items ≡ text.old.items
+        ++ outcome_text (outcomes.Recovered written sent)) }
 {
     put_numbers(
         text,
@@ -249,7 +255,7 @@ fn put_recovered(text: &mut Vec<u8>, written: Epoch, sent: u64) -> Result<(), No
     )
 }
 
-/// A node group of a site is lost.
+/// Appends that a node group of a site is lost.
 #[tactic(auto, unfolding(rb_text_defs::specs::Report::outcome_text))]
 fn put_drain_lost(
     text: &mut Vec<u8>,
@@ -257,7 +263,8 @@ fn put_drain_lost(
     group: u32,
     epoch: Epoch,
 ) -> Result<(), NoMemory>
-    ensures { OnOk result (text.new.items ≡ text.old.items ++ outcome_text (outcomes.DrainLost site group epoch)) }
+    ensures { OnOk result (text.new.items ≡ text.old.items
+        ++ outcome_text (outcomes.DrainLost site group epoch)) }
 {
     put(text, b"lost ")?;
     put(text, letter(site))?;
@@ -265,10 +272,11 @@ fn put_drain_lost(
     Ok(())
 }
 
-/// A place in a log: a label, the file, and the position.
+/// Appends a place in a log: a label, the file, and the position.
 fn put_place(text: &mut Vec<u8>, label: &[u8], file: u32, position: u64) -> Result<(), NoMemory>
     ensures { OnOk result (text.new.items
-        ≡ text.old.items ++ concat (labelled label.now file ∷ labelled (codes " pos=") position ∷ [])) }
+        ≡ text.old.items ++ concat (labelled label.now file ∷ labelled
+        (codes " pos=") position ∷ [])) }
 {
     put_numbers(
         text,
@@ -279,7 +287,7 @@ fn put_place(text: &mut Vec<u8>, label: &[u8], file: u32, position: u64) -> Resu
     )
 }
 
-/// An epoch is applied.
+/// Appends that an epoch was applied.
 #[tactic(auto, unfolding(rb_text_defs::specs::Report::outcome_text))]
 fn put_applied(
     text: &mut Vec<u8>,
@@ -289,7 +297,8 @@ fn put_applied(
     refreshed: u32,
     sent: u64,
 ) -> Result<(), NoMemory>
-    ensures { OnOk result (text.new.items ≡ text.old.items ++ outcome_text (outcomes.Applied epoch accepted rejected refreshed sent)) }
+    ensures { OnOk result (text.new.items ≡ text.old.items
+        ++ outcome_text (outcomes.Applied epoch accepted rejected refreshed sent)) }
 {
     put_numbers(
         text,
@@ -303,10 +312,11 @@ fn put_applied(
     )
 }
 
-/// Epochs are applied up to a place.
+/// Appends that epochs were applied up to a place.
 #[tactic(auto, unfolding(rb_text_defs::specs::Report::outcome_text))]
 fn put_flowed(text: &mut Vec<u8>, count: u64, file: u32, position: u64) -> Result<(), NoMemory>
-    ensures { OnOk result (text.new.items ≡ text.old.items ++ outcome_text (outcomes.Flowed count file position)) }
+    ensures { OnOk result (text.new.items ≡ text.old.items
+        ++ outcome_text (outcomes.Flowed count file position)) }
 {
     put_numbers(
         text,
@@ -318,17 +328,18 @@ fn put_flowed(text: &mut Vec<u8>, count: u64, file: u32, position: u64) -> Resul
     )
 }
 
-/// The events of a site's files.
+/// Appends the events of a site's files.
 fn put_dumped(text: &mut Vec<u8>, files: u32, events: &[Listed]) -> Result<(), NoMemory>
     ensures { OnOk result (text.new.items
-        ≡ text.old.items ++ (labelled (codes "dumped files=") files ++ flat_map listed_text events.now)) }
+        ≡ text.old.items ++ (labelled (codes "dumped files=") files
+        ++ flat_map listed_text events.now)) }
 {
     put_number(text, b"dumped files=", u64::from(files))?;
     put_listed(text, events)?;
     Ok(())
 }
 
-/// Events of files, each on a line of its own.
+/// Appends events of files, each on a line of its own.
 fn put_listed(text: &mut Vec<u8>, events: &[Listed]) -> Result<(), NoMemory>
     ensures { OnOk result (text.new.items ≡ text.old.items ++ flat_map listed_text events.now) }
 {
@@ -338,7 +349,7 @@ fn put_listed(text: &mut Vec<u8>, events: &[Listed]) -> Result<(), NoMemory>
     Ok(())
 }
 
-/// An event of a file, on a line of its own.
+/// Appends an event of a file, on a line of its own.
 fn put_event(text: &mut Vec<u8>, event: Listed) -> Result<(), NoMemory>
     ensures { OnOk result (text.new.items ≡ text.old.items ++ listed_text event) }
 {

@@ -5,11 +5,11 @@ ghost use Rattle.rb_text_defs.specs.Report.{labelled, letter_of};
 use itoa::Buffer;
 use rb_base::{NoMemory, SiteId};
 
-/// A number behind its label.
+/// A number with its label before it.
 #[derive(Clone, Copy)]
 pub(crate) struct Labelled<'a>(pub(crate) &'a [u8], pub(crate) u64);
 
-/// Appends bytes as they are.
+/// Appends bytes unchanged.
 pub(crate) fn put(text: &mut Vec<u8>, bytes: &[u8]) -> Result<(), NoMemory>
     ensures { OnOk result (text.new.items ≡ text.old.items ++ bytes.now) }
 {
@@ -17,7 +17,7 @@ pub(crate) fn put(text: &mut Vec<u8>, bytes: &[u8]) -> Result<(), NoMemory>
     Ok(())
 }
 
-/// Appends a number behind its label. The digits are made on the stack.
+/// Appends a number after its label. The digits are made on the stack.
 pub(crate) fn put_number(text: &mut Vec<u8>, label: &[u8], number: u64) -> Result<(), NoMemory>
     ensures { OnOk result (text.new.items ≡ text.old.items ++ labelled label.now number) }
 {
@@ -26,7 +26,7 @@ pub(crate) fn put_number(text: &mut Vec<u8>, label: &[u8], number: u64) -> Resul
     Ok(())
 }
 
-/// Appends numbers, each behind its label.
+/// Appends numbers, each after its label.
 pub(crate) fn put_numbers(text: &mut Vec<u8>, numbers: &[Labelled<'_>]) -> Result<(), NoMemory>
     ensures { OnOk result (text.new.items
         ≡ text.old.items ++ concat (map (λ number. labelled number.0.now number.1) numbers.now)) }
@@ -37,7 +37,7 @@ pub(crate) fn put_numbers(text: &mut Vec<u8>, numbers: &[Labelled<'_>]) -> Resul
     Ok(())
 }
 
-/// The letter of a site.
+/// Returns the letter of a site.
 pub(crate) fn letter(site: SiteId) -> &'static [u8]
     ensures { result.now ≡ letter_of site }
 {

@@ -17,7 +17,8 @@ pub(crate) fn put_row(text: &mut Vec<u8>, row: &Row) -> Result<(), NoMemory>
 
 /// Appends values, a space between.
 pub(crate) fn put_joined(text: &mut Vec<u8>, values: &[Value]) -> Result<(), NoMemory>
-    ensures { OnOk result (text.new.items ≡ text.old.items ++ join_by value_text (codes " ") values.now) }
+    ensures { OnOk result (text.new.items ≡ text.old.items
+        ++ join_by value_text (codes " ") values.now) }
 {
     match values.split_first() {
         Some((first, others)) => {
@@ -31,7 +32,8 @@ pub(crate) fn put_joined(text: &mut Vec<u8>, values: &[Value]) -> Result<(), NoM
 
 /// Appends values, a space before each.
 fn put_values(text: &mut Vec<u8>, values: &[Value]) -> Result<(), NoMemory>
-    ensures { OnOk result (text.new.items ≡ text.old.items ++ flat_map (λ value. 32 ∷ value_text value) values.now) }
+    ensures { OnOk result (text.new.items ≡ text.old.items
+        ++ flat_map (λ value. 32 ∷ value_text value) values.now) }
 {
     for value in values {
         text.push(b' ')?;
@@ -68,7 +70,8 @@ pub(crate) fn put_bytes(text: &mut Vec<u8>, bytes: &[u8]) -> Result<(), NoMemory
     Ok(())
 }
 
-/// Appends a byte of a text: as it is where it prints and is no quote and no backslash, else by its hexadecimal number.
+/// Appends a byte of a text: unchanged if it is printable and no quote or backslash, otherwise as
+/// `\x` and two hexadecimal digits.
 fn put_byte(text: &mut Vec<u8>, byte: u8) -> Result<(), NoMemory>
     ensures { OnOk result (text.new.items ≡ text.old.items ++ text_byte byte) }
 {
@@ -89,7 +92,7 @@ fn is_plain(byte: u8) -> bool
     b' ' <= byte && byte <= b'~' && byte != b'"' && byte != b'\\'
 }
 
-/// A hexadecimal digit, in lower case.
+/// Returns a hexadecimal digit, in lower case.
 fn hex_digit(digit: u8) -> u8
     requires { digit < 16 }
     ensures { result ≡ hex_digit digit }

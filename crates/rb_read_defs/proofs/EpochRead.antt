@@ -1,4 +1,4 @@
--- An epoch that was written is seen event by event, and its steps are that epoch.
+-- A written epoch is read event by event, and its only step is that epoch.
 use Rattle.std.proofs.Common.{◌≡◌, ℕ, ◌+◌, ◌^◌, ◌<◌, ◌≤◌, ◌≢◌, Bool, true, false, List, [], ◌∷◌, ◌++◌, length, map, refl, sym, ap, subst, ◌∙◌, arith, append_assoc, length-append}
 use Rattle.std.specs.Prelude.{◌==◌, codes, Option, Some, None, IsNone}
 use Rattle.std.specs.List.{list_any, AllByRecursion}
@@ -24,7 +24,7 @@ use Rattle.rb_read_defs.specs.Events.{is_known}
 use Rattle.rb_read_defs.specs.declared.answers.Content.{Content}
 use Rattle.rb_read_defs.specs.declared.answers.Content.TheVariants.{Begins, Ends as EndsEpoch, Maps, Changes, Statuses}
 use Rattle.rb_read_defs.specs.Stream.{Known, open_epoch, is_open, maps_of, map_in_force, statuses_of, own_rows, other_rows, is_single, is_rotated, is_in_order, rows_in, kind_of, content_in, has_statuses, seen_from, cut_from, changes_read, tables_named, tables_read, first_epoch_of, body_read, steps_of, settled_at}
-use Rattle.rb_read_defs.specs.Readable.{IsReadableTable, IsReadableChange, told_rows, IsReadable, IsReadBack}
+use Rattle.rb_read_defs.specs.Readable.{IsReadableTable, IsReadableChange, status_rows_of, IsReadable, IsReadBack}
 use Rattle.rb_read_defs.specs.declared.answers.StatusRow.{StatusRow}
 use Rattle.rb_read_defs.specs.declared.answers.Step.{Step}
 use Rattle.rb_read_defs.specs.declared.answers.Step.TheVariants as steps
@@ -32,9 +32,10 @@ use Rattle.rb_read_defs.proofs.Fields.{ends_at_start, gives_ends}
 use Rattle.rb_read_defs.proofs.EventsRead.{begin_read, status_map_read, xid_ends, table_map_gives}
 use Rattle.rb_read_defs.proofs.RowsRead.{change_ends, statuses_end, change_table_first, status_table_first, end_flag_small}
 use Rattle.rb_read_defs.proofs.EventSeen.{head_of, Sees, same_cuts, one_seen}
-use Rattle.rb_read_defs.proofs.TablesNamed.{Ascend, same_id, has, front_of, ids_of, find_id, not_later, tables_ascend, tables_all, tables_back, IsTable, table_there}
+use Rattle.rb_read_defs.proofs.TablesNamed.{Ascend, same_id, has, prefix_of, ids_of, find_id, not_later, tables_ascend, tables_all, tables_back, IsTable, table_there}
 
--- an epoch is open behind some events: its events so far, and what they say; none of them gives a step
+-- after these events an epoch is open, with these events and contents so far; none of the epoch's
+-- events gives a step
 record InEpoch (earlier known inner : List Known) (maps : List Mapped) (rows : List (ℕ × StatusRow)) (changes : List Change) : Type 0 where
   opened : open_epoch known ≡ Some inner
   rotated : is_rotated known ≡ false
@@ -43,7 +44,7 @@ record InEpoch (earlier known inner : List Known) (maps : List Mapped) (rows : L
   changes_are : changes_read inner ≡ changes
   steps_are : steps_of known ≡ steps_of earlier
 
--- the events of an epoch from one of them on, seen behind others to the epoch's end
+-- the reading of an epoch's remaining events, from one of them to the epoch's end
 record IsTold (events : List Placed) (known : List Known) (at end : ℕ) (told : List Step) : Type 0 where
   seen : List Known
   sees : Sees events known at end seen
@@ -52,13 +53,14 @@ record IsTold (events : List Placed) (known : List Known) (at end : ℕ) (told :
   goes_on : is_rotated (seen ++ known) ≡ false
   settled : (first : ℕ) → settled_at first (seen ++ known) ≡ end
 
--- events have room: each in its header, and all in the file
+-- the events have room: each has a length that its header can hold, and all of them end within 32
+-- bits
 record HaveRoom (events : List Placed) (at end : ℕ) : Type 0 where
   sizes : AllByRecursion (λ event. length (event 0) ≤ 2147483647) events
   ends : at + length (joined_from at events) ≡ end
   small : end < 2 ^ 32
 
--- one event more, and those behind it
+-- one more event, and the events after it
 event_told : (kind server : ℕ) (payload : List ℕ) (at end : ℕ) (known : List Known) (says : Content) (after : ℕ) (rest : List Placed) (told : List Step) →
     is_known kind ≡ true → server < 2 ^ 32 → HaveRoom (event_bytes kind server payload ∷ rest) at end → is_rotated known ≡ false → is_in_order at known kind ≡ true →
     content_in at known (head_of kind server payload at) payload 0 ≡ Read says after → has_statuses known server says ≡ true →
@@ -108,9 +110,10 @@ event_told kind server payload at end known says after rest told is_kind one roo
           settled = rw same tail.settled;
         }
 
--- the apply-status rows of an epoch, each with its event's server: the own one, and the reflected one
+-- the apply-status rows of an epoch, each with the server of its event: the own row, and then the
+-- reflected one
 abbrev rows_of : EpochBody → List (ℕ × StatusRow)
-rows_of body = map (λ row. (body.server, row)) (told_rows body)
+rows_of body = map (λ row. (body.server, row)) (status_rows_of body)
 
 record HasRows (body : EpochBody) (rows : List (ℕ × StatusRow)) : Type 0 where
   own : own_rows rows ≡ record { server = body.server; epoch = body.epoch } ∷ []
@@ -138,32 +141,32 @@ has_rows body none = go body.reflected none
 
 -- the maps of an epoch, the newest first
 abbrev maps_in : EpochBody → List Mapped
-maps_in body = front_of body.tables (status_table ∷ [])
+maps_in body = prefix_of body.tables (status_table ∷ [])
 
--- what is read of a whole epoch is its body
+-- the body that is read of a whole epoch is the epoch's body
 body_back : (body : EpochBody) (inner : List Known) → HasRows body (rows_of body) → map (λ table. table.id) body.tables ≡ tables_named body.changes → Ascend (ids_of body.tables) →
     maps_of inner ≡ maps_in body → statuses_of inner ≡ rows_of body → changes_read inner ≡ body.changes → body_read inner body.server ≡ body
 body_back body inner rows named up maps statuses changes =
     let tables : tables_read inner (changes_read inner) ≡ body.tables = rw (changes, maps, ← named) (tables_back body.tables (status_table ∷ []) up) in
     rw (tables, changes, statuses, rows.own, rows.other) refl
 
--- a place behind the file's first event
+-- a position after the first event of a file
 not_first : (at : ℕ) → 4 < at → (at == 4) ≡ false
-not_first at behind = grind (arith, nat_tests)
+not_first at following = grind (arith, nat_tests)
 
--- the event that ends an epoch
+-- the XID event that ends an epoch
 xid_told : (body : EpochBody) (at end : ℕ) (earlier known inner : List Known) → IsReadable body → HasRows body (rows_of body) → Ascend (ids_of body.tables) → 4 < at →
     InEpoch earlier known inner (maps_in body) (rows_of body) body.changes → HaveRoom (xid_event body.server body.epoch.0 ∷ []) at end →
     IsTold (xid_event body.server body.epoch.0 ∷ []) known at end (steps_of earlier ++ steps.Epoch body end ∷ [])
 unfolding content_in open_epoch steps_of
-xid_told body at end earlier known inner readable rows up behind within room =
+xid_told body at end earlier known inner readable rows up following within room =
     event_told 16 body.server payload at end known EndsEpoch (length (xid_payload body.epoch.0)) [] (steps_of earlier ++ steps.Epoch body end ∷ []) refl readable.server room within.rotated order content own later
   where
     payload : List ℕ
     payload = xid_payload body.epoch.0
 
     order : is_in_order at known 16 ≡ true
-    order = rw (not_first at behind, within.opened) refl
+    order = rw (not_first at following, within.opened) refl
 
     content : content_in at known (head_of 16 body.server (xid_payload body.epoch.0) at) (xid_payload body.epoch.0) 0 ≡ Read EndsEpoch (length (xid_payload body.epoch.0))
     content = rw (ends_at_start (xid_ends body.epoch.0 readable.epoch)) refl
@@ -188,7 +191,7 @@ xid_told body at end earlier known inner readable rows up behind within room =
           settled = λ first. here;
         }
 
--- an event more of an epoch that is open
+-- one more event of the open epoch
 next_changes : (earlier known inner : List Known) (maps : List Mapped) (rows : List (ℕ × StatusRow)) (changes all : List Change) (server end : ℕ) → InEpoch earlier known inner maps rows changes →
     InEpoch earlier (record { end = end; server = server; says = Changes all } ∷ known) (record { end = end; server = server; says = Changes all } ∷ inner) maps rows (changes ++ all)
 unfolding open_epoch steps_of
@@ -225,7 +228,7 @@ next_statuses earlier known inner maps changes all server end within = record {
   steps_are = append-nil (steps_of known) ∙ within.steps_are;
 }
 
--- a table's map in an epoch that is open
+-- the map of a table in the open epoch
 in_force : (earlier known inner : List Known) (maps : List Mapped) (rows : List (ℕ × StatusRow)) (changes : List Change) (id : ℕ) → InEpoch earlier known inner maps rows changes → map_in_force known id ≡ find_id id maps
 in_force earlier known inner maps rows changes id within = rw (within.opened, within.maps_are) refl
 
@@ -241,9 +244,9 @@ rows_kind Update = refl
 rows_kind Remove = refl
 
 rows_in_order : (kind : Kind) (at : ℕ) (known : List Known) → (at == 4) ≡ false → is_open known ≡ true → is_in_order at known (rows_type kind) ≡ true
-rows_in_order Insert at known behind opened = rw (behind, opened) refl
-rows_in_order Update at known behind opened = rw (behind, opened) refl
-rows_in_order Remove at known behind opened = rw (behind, opened) refl
+rows_in_order Insert at known following opened = rw (following, opened) refl
+rows_in_order Update at known following opened = rw (following, opened) refl
+rows_in_order Remove at known following opened = rw (following, opened) refl
 
 rows_content : (kind : Kind) (at : ℕ) (known : List Known) (server : ℕ) (payload : List ℕ) → content_in at known (head_of (rows_type kind) server payload at) ≡ rows_in known (head_of (rows_type kind) server payload at)
 unfolding content_in
@@ -251,7 +254,7 @@ rows_content Insert at known server payload = refl
 rows_content Update at known server payload = refl
 rows_content Remove at known server payload = refl
 
--- what the rows event of a change says
+-- the content of a change's rows event
 change_content : (at : ℕ) (known : List Known) (server flags : ℕ) (all : List Column) (change : Change) (table : Mapped) → IsReadableTable table → IsReadableChange server all change → all ≡ table.columns → table.id ≡ change.table → flags < 2 ^ 16 →
     map_in_force known change.table ≡ Some table →
     content_in at known (head_of (rows_type change.kind) server (change_payload all change flags) at) (change_payload all change flags) 0 ≡ Read (Changes (change ∷ [])) (length (change_payload all change flags))
@@ -264,7 +267,7 @@ change_content at known server flags all change table readable fits same id two 
     rw (rows_content change.kind at known server payload, first)
     (rw force (rw (readable.data_table, rows_kind change.kind, read) refl))
 
--- a change that the epoch's tables have
+-- a change whose table is among the epoch's tables
 record HasTable (body : EpochBody) (change : Change) : Type 0 where
   table : IsTable IsReadableTable change.table body.tables (status_table ∷ [])
   fits : IsReadableChange body.server (columns_of body.tables change.table) change
@@ -274,9 +277,9 @@ changes_told : (body : EpochBody) (end : ℕ) (earlier : List Known) → IsReada
     (later : List Change) (at : ℕ) (known inner : List Known) (done : List Change) → AllByRecursion (HasTable body) later → done ++ later ≡ body.changes → 4 < at →
     InEpoch earlier known inner (maps_in body) (rows_of body) done → HaveRoom (change_events body.server body.tables later ++ xid_event body.server body.epoch.0 ∷ []) at end →
     IsTold (change_events body.server body.tables later ++ xid_event body.server body.epoch.0 ∷ []) known at end (steps_of earlier ++ steps.Epoch body end ∷ [])
-changes_told body end earlier readable rows up [] at known inner done all whole behind within room =
-    xid_told body at end earlier known inner readable rows up behind (subst (λ (changes : List Change). InEpoch earlier known inner (maps_in body) (rows_of body) changes) (sym (append-nil done) ∙ whole) within) room
-changes_told body end earlier readable rows up (change ∷ later) at known inner done all whole behind within room =
+changes_told body end earlier readable rows up [] at known inner done all whole following within room =
+    xid_told body at end earlier known inner readable rows up following (subst (λ (changes : List Change). InEpoch earlier known inner (maps_in body) (rows_of body) changes) (sym (append-nil done) ∙ whole) within) room
+changes_told body end earlier readable rows up (change ∷ later) at known inner done all whole following within room =
     let one = all.0 in
     let there = one.table in
     let columns : List Column = columns_of body.tables change.table in
@@ -284,13 +287,13 @@ changes_told body end earlier readable rows up (change ∷ later) at known inner
     let same : columns_of body.tables change.table ≡ there.table.columns = rw there.first refl in
     let force : map_in_force known change.table ≡ Some there.table = in_force earlier known inner (maps_in body) (rows_of body) done change.table within ∙ there.last in
     event_told (rows_type change.kind) body.server payload at end known (Changes (change ∷ [])) (length payload) (change_events body.server body.tables later ++ xid_event body.server body.epoch.0 ∷ []) (steps_of earlier ++ steps.Epoch body end ∷ [])
-    (rows_known change.kind) readable.server room within.rotated (rows_in_order change.kind at known (not_first at behind) (rw within.opened refl))
+    (rows_known change.kind) readable.server room within.rotated (rows_in_order change.kind at known (not_first at following) (rw within.opened refl))
     (change_content at known body.server (end_flag later) columns change there.table there.passes one.fits same there.id_is (end_flag_small later) force) refl
     (λ next. changes_told body end earlier readable rows up later (at + (19 + length payload))
     (record { end = at + (19 + length payload); server = body.server; says = Changes (change ∷ []) } ∷ known) (record { end = at + (19 + length payload); server = body.server; says = Changes (change ∷ []) } ∷ inner) (done ++ change ∷ [])
     all.1 (append_assoc done (change ∷ []) later ∙ whole) (omega arith) (next_changes earlier known inner (maps_in body) (rows_of body) done (change ∷ []) body.server (at + (19 + length payload)) within) next)
 
--- the apply-status table's map, behind which all maps are of data tables
+-- the apply-status table's map; all maps after it are of data tables
 status_there : (body : EpochBody) → AllByRecursion (λ id. 0 < id) (ids_of body.tables) → find_id 0 (maps_in body) ≡ Some status_table
 status_there body above = not_later 0 body.tables (status_table ∷ []) above ∙ refl
 
@@ -299,38 +302,38 @@ rows_told : (body : EpochBody) (at end : ℕ) (earlier known inner : List Known)
     InEpoch earlier known inner (maps_in body) [] [] → HaveRoom (status_event body ∷ (change_events body.server body.tables body.changes ++ xid_event body.server body.epoch.0 ∷ [])) at end →
     IsTold (status_event body ∷ (change_events body.server body.tables body.changes ++ xid_event body.server body.epoch.0 ∷ [])) known at end (steps_of earlier ++ steps.Epoch body end ∷ [])
 unfolding content_in
-rows_told body at end earlier known inner readable rows up tables above behind within room =
-    event_told 30 body.server (status_payload body) at end known (Statuses (told_rows body)) (length (status_payload body)) (change_events body.server body.tables body.changes ++ xid_event body.server body.epoch.0 ∷ []) (steps_of earlier ++ steps.Epoch body end ∷ [])
-    refl readable.server room within.rotated (rw (not_first at behind, within.opened) refl) content single
+rows_told body at end earlier known inner readable rows up tables above following within room =
+    event_told 30 body.server (status_payload body) at end known (Statuses (status_rows_of body)) (length (status_payload body)) (change_events body.server body.tables body.changes ++ xid_event body.server body.epoch.0 ∷ []) (steps_of earlier ++ steps.Epoch body end ∷ [])
+    refl readable.server room within.rotated (rw (not_first at following, within.opened) refl) content single
     (λ next. changes_told body end earlier readable rows up body.changes (at + (19 + length (status_payload body)))
-    (record { end = at + (19 + length (status_payload body)); server = body.server; says = Statuses (told_rows body) } ∷ known) (record { end = at + (19 + length (status_payload body)); server = body.server; says = Statuses (told_rows body) } ∷ inner) []
-    tables refl (omega arith) (next_statuses earlier known inner (maps_in body) [] (told_rows body) body.server (at + (19 + length (status_payload body))) within) next)
+    (record { end = at + (19 + length (status_payload body)); server = body.server; says = Statuses (status_rows_of body) } ∷ known) (record { end = at + (19 + length (status_payload body)); server = body.server; says = Statuses (status_rows_of body) } ∷ inner) []
+    tables refl (omega arith) (next_statuses earlier known inner (maps_in body) [] (status_rows_of body) body.server (at + (19 + length (status_payload body))) within) next)
   where
     force : map_in_force known 0 ≡ Some status_table
     force = in_force earlier known inner (maps_in body) [] [] 0 within ∙ status_there body above
 
-    content : content_in at known (head_of 30 body.server (status_payload body) at) (status_payload body) 0 ≡ Read (Statuses (told_rows body)) (length (status_payload body))
+    content : content_in at known (head_of 30 body.server (status_payload body) at) (status_payload body) 0 ≡ Read (Statuses (status_rows_of body)) (length (status_payload body))
     content = rw (status_table_first body) (rw force (rw (ends_at_start (statuses_end body readable.server readable.epoch readable.reflected)) refl))
 
-    single : has_statuses known body.server (Statuses (told_rows body)) ≡ true
+    single : has_statuses known body.server (Statuses (status_rows_of body)) ≡ true
     single =
         ap (λ (inner : Option (List Known)). is_single (rows_of body ++ option_map_or statuses_of inner [])) within.opened
         ∙ ap (λ (before : List (ℕ × StatusRow)). is_single (rows_of body ++ before)) within.rows_are
         ∙ ap is_single (append-nil (rows_of body)) ∙ rows.single
 
--- the maps of an epoch's tables, from one of them on, and its rows
+-- the maps of an epoch's tables, from one of them on, and the epoch's rows
 maps_told : (body : EpochBody) (end : ℕ) (earlier : List Known) → IsReadable body → HasRows body (rows_of body) → Ascend (ids_of body.tables) → AllByRecursion (HasTable body) body.changes → AllByRecursion (λ id. 0 < id) (ids_of body.tables) →
-    (later : List Mapped) (at : ℕ) (known inner : List Known) (maps : List Mapped) → AllByRecursion IsReadableTable later → front_of later maps ≡ maps_in body → 4 < at →
+    (later : List Mapped) (at : ℕ) (known inner : List Known) (maps : List Mapped) → AllByRecursion IsReadableTable later → prefix_of later maps ≡ maps_in body → 4 < at →
     InEpoch earlier known inner maps [] [] → HaveRoom (map (table_map_event body.server) later ++ (status_event body ∷ (change_events body.server body.tables body.changes ++ xid_event body.server body.epoch.0 ∷ []))) at end →
     IsTold (map (table_map_event body.server) later ++ (status_event body ∷ (change_events body.server body.tables body.changes ++ xid_event body.server body.epoch.0 ∷ []))) known at end (steps_of earlier ++ steps.Epoch body end ∷ [])
 unfolding content_in
-maps_told body end earlier readable rows up tables above [] at known inner maps all whole behind within room =
-    rows_told body at end earlier known inner readable rows up tables above behind (subst (λ (maps : List Mapped). InEpoch earlier known inner maps [] []) whole within) room
-maps_told body end earlier readable rows up tables above (table ∷ later) at known inner maps all whole behind within room =
+maps_told body end earlier readable rows up tables above [] at known inner maps all whole following within room =
+    rows_told body at end earlier known inner readable rows up tables above following (subst (λ (maps : List Mapped). InEpoch earlier known inner maps [] []) whole within) room
+maps_told body end earlier readable rows up tables above (table ∷ later) at known inner maps all whole following within room =
     let payload : List ℕ = table_map_payload table in
     let read = ends_at_start (gives_ends (table_map_gives table all.0)) in
     event_told 19 body.server payload at end known (Maps table) (length payload) (map (table_map_event body.server) later ++ (status_event body ∷ (change_events body.server body.tables body.changes ++ xid_event body.server body.epoch.0 ∷ []))) (steps_of earlier ++ steps.Epoch body end ∷ [])
-    refl readable.server room within.rotated (rw (not_first at behind, within.opened) refl) (rw read refl) refl
+    refl readable.server room within.rotated (rw (not_first at following, within.opened) refl) (rw read refl) refl
     (λ next. maps_told body end earlier readable rows up tables above later (at + (19 + length payload))
     (record { end = at + (19 + length payload); server = body.server; says = Maps table } ∷ known) (record { end = at + (19 + length payload); server = body.server; says = Maps table } ∷ inner) (table ∷ maps)
     all.1 whole (omega arith) (next_map earlier known inner maps [] [] table body.server (at + (19 + length payload)) within) next)
@@ -355,15 +358,15 @@ begin_told body start end earlier readable rows up tables above place closed rot
     status_map : (at : ℕ) (known : List Known) → 4 < at → InEpoch earlier known [] [] [] [] →
         HaveRoom (table_map_event body.server status_table ∷ (map (table_map_event body.server) body.tables ++ (status_event body ∷ (change_events body.server body.tables body.changes ++ xid_event body.server body.epoch.0 ∷ [])))) at end →
         IsTold (table_map_event body.server status_table ∷ (map (table_map_event body.server) body.tables ++ (status_event body ∷ (change_events body.server body.tables body.changes ++ xid_event body.server body.epoch.0 ∷ [])))) known at end (steps_of earlier ++ steps.Epoch body end ∷ [])
-    status_map at known behind within room =
+    status_map at known following within room =
         let payload : List ℕ = table_map_payload status_table in
         event_told 19 body.server payload at end known (Maps status_table) (length payload) (map (table_map_event body.server) body.tables ++ (status_event body ∷ (change_events body.server body.tables body.changes ++ xid_event body.server body.epoch.0 ∷ []))) (steps_of earlier ++ steps.Epoch body end ∷ [])
-        refl readable.server room within.rotated (rw (not_first at behind, within.opened) refl) (rw status_map_read refl) refl
+        refl readable.server room within.rotated (rw (not_first at following, within.opened) refl) (rw status_map_read refl) refl
         (λ next. maps_told body end earlier readable rows up tables above body.tables (at + (19 + length payload))
         (record { end = at + (19 + length payload); server = body.server; says = Maps status_table } ∷ known) (record { end = at + (19 + length payload); server = body.server; says = Maps status_table } ∷ []) (status_table ∷ [])
         (recursion_from_All IsReadableTable body.tables readable.tables) refl (omega arith) (next_map earlier known [] [] [] [] status_table body.server (at + (19 + length payload)) within) next)
 
--- the facts of all changes, one by one
+-- the facts about all changes, one change at a time
 changes_have : (body : EpochBody) → Ascend (ids_of body.tables) → AllByRecursion IsReadableTable body.tables → (later : List Change) → AllByRecursion (λ change. has change.table (ids_of body.tables) ≡ true) later →
     AllByRecursion (λ change. IsReadableChange body.server (columns_of body.tables change.table) change) later → AllByRecursion (HasTable body) later
 changes_have body up tables [] named fit = tt
@@ -374,7 +377,7 @@ above_ids : (tables : List Mapped) → AllByRecursion (λ table. 0 < table.id) t
 above_ids [] all = tt
 above_ids (table ∷ tables) all = (all.0, above_ids tables all.1)
 
--- an epoch that can be read back is
+-- a readable epoch is read as it was written
 pub epoch_back : (body : EpochBody) (start : ℕ) (earlier : List Known) → IsReadable body → start ≢ 4 → is_open earlier ≡ false → is_rotated earlier ≡ false → start + length (epoch_bytes body start) < 2 ^ 32 → IsReadBack body start earlier
 unfolding epoch_bytes
 epoch_back body start earlier readable place closed rotated small =

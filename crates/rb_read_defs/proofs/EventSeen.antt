@@ -1,4 +1,4 @@
--- An event that was written is cut out of the bytes as it is, and seen as what it says.
+-- A written event is cut out of the bytes as it is, and is read as its content.
 use Rattle.std.proofs.Common.{◌≡◌, ◌⊎◌, ℕ, zero, suc, ◌+◌, ◌^◌, ◌<◌, ◌≤◌, true, false, List, [], ◌∷◌, ◌++◌, length, take, drop, refl, ap, ◌∙◌, arith, inl, inr, append_assoc, length-append, length-drop}
 use Rattle.std.specs.Prelude.{nat_le, nat_lt, if◌then◌else◌, Some, None}
 use Rattle.std.proofs.lemmas.Bool.{le-leb, lt-ltb, le-ltb, cases_lt}
@@ -15,7 +15,7 @@ use Rattle.rb_read_defs.proofs.Fields.{gives_at_start}
 use Rattle.rb_read_defs.proofs.EventsRead.{header_gives}
 use Rattle.rb_read_defs.proofs.Growing.{header_size}
 
--- enough tries are as many as there are bytes
+-- the number of bytes is enough as the number of rounds
 by_header : (at : ℕ) (bytes : List ℕ) (r : Reading Header) (first other : ℕ → List Cut) → ((head : Header) (after : ℕ) → r ≡ Read head after → first head.size ≡ other head.size) → cut_by at bytes r first ≡ cut_by at bytes r other
 by_header at bytes (Read head after) first other same =
     ap (λ (later : List Cut). if nat_le head.size (length bytes) then record { at = at; head = Read head after; payload = Some (drop 19 (take head.size bytes)) } ∷ later else record { at = at; head = Read head after; payload = None } ∷ []) (same head after refl)
@@ -40,7 +40,7 @@ same_cuts (suc n) (suc m) at bytes low high = go (cases_lt (length bytes) 19) (�
 abbrev pub head_of : (kind server : ℕ) (payload : List ℕ) (at : ℕ) → Header
 head_of kind server payload at = record { kind = kind; server = server; size = 19 + length payload; end = at + (19 + length payload); flags = 0 }
 
--- an event with bytes behind it, cut out of them
+-- an event with bytes after it, cut out of them
 one_cut : (n kind server : ℕ) (payload : List ℕ) (at : ℕ) (more : List ℕ) → is_known kind ≡ true → server < 2 ^ 32 → 19 + length payload ≤ 2147483647 → at + (19 + length payload) < 2 ^ 32 →
     cut_from (suc n) at (event_bytes kind server payload at ++ more)
     ≡ record { at = at; head = Read (head_of kind server payload at) 19; payload = Some payload } ∷ cut_from n (at + (19 + length payload)) more
@@ -58,11 +58,11 @@ one_cut n kind server payload at more known one small placed =
     rw (le-ltb (length ((head ++ payload) ++ more)) 19 (omega arith), read)
     (rw (le-leb size (length ((head ++ payload) ++ more)) (omega arith), take_at (head ++ payload) more size long, drop_at (head ++ payload) more size long, drop_at head payload 19 own) refl)
 
--- these events, from a position to another, are seen behind others as these
+-- these events, which span these positions, are read after the earlier events as these known events
 pub record Sees (events : List Placed) (earlier : List Known) (at end : ℕ) (seen : List Known) : Type 0 where
   pub sees : (n m : ℕ) (more : List ℕ) → length (joined_from at events ++ more) ≤ n → length more ≤ m → seen_from earlier (cut_from n at (joined_from at events ++ more)) ≡ seen_from (seen ++ earlier) (cut_from m end more)
 
--- an event that is good behind others
+-- an event that is good after the earlier events
 pub one_seen : (kind server : ℕ) (payload : List ℕ) (at : ℕ) (earlier : List Known) (says : Content) (after n m : ℕ) (more : List ℕ) → is_known kind ≡ true → server < 2 ^ 32 → 19 + length payload ≤ 2147483647 → at + (19 + length payload) < 2 ^ 32 →
     is_rotated earlier ≡ false → is_in_order at earlier kind ≡ true → content_in at earlier (head_of kind server payload at) payload 0 ≡ Read says after → has_statuses earlier server says ≡ true →
     length (event_bytes kind server payload at ++ more) ≤ n → length more ≤ m →

@@ -1,4 +1,5 @@
--- An event that was written is read as what it says: its header, and the payloads of all but the rows events.
+-- A written event is read as it was written: its header, and the payloads of all events without
+-- rows.
 use Rattle.std.proofs.Common.{◌≡◌, ℕ, zero, suc, ◌+◌, ◌^◌, ◌<◌, ◌≤◌, true, cond, List, [], ◌∷◌, ◌++◌, length, map, get_or, refl, ap, ◌∙◌, arith}
 use Rattle.std.specs.Prelude.{◌==◌, codes}
 use Rattle.std.proofs.lemmas.Bool.{le-leb}
@@ -28,7 +29,7 @@ use Rattle.rb_read_defs.proofs.Fields.{Gives, Ends, then_gives, then_ends, give_
 known_byte : (kind : ℕ) → is_known kind ≡ true → kind < 256
 known_byte kind known = grind (arith, nat_tests)
 
--- an event's type, whatever its flags are
+-- a known type is accepted with any flags
 may_be : (flags : Reading ℕ) (kind : ℕ) → is_known kind ≡ true → may_be_type flags kind ≡ true
 may_be (Read flags after) kind known = rw known refl
 may_be (Short place) kind known = refl
@@ -53,7 +54,7 @@ header_gives kind server size start flags known one whole small placed two =
     (then_gives _ (that_gives fields.EndPosition _ (grind (arith, nat_tests)) (number_gives 4 (start + size) (omega arith)))
     (then_gives _ (number_gives 2 flags (omega arith)) (give_gives _))))))
 
--- an XID event and a rotation
+-- the payloads of an XID event and of a rotation
 pub xid_ends : (n : ℕ) → n < 2 ^ 64 → Ends xid (xid_payload n) n
 unfolding xid xid_payload
 xid_ends n small = then_ends _ (number_gives 8 n (omega arith)) (made_ends (λ end. n) end_ends)
@@ -62,7 +63,7 @@ pub rotate_ends : (position : ℕ) (name : List ℕ) → position < 2 ^ 64 → E
 unfolding rotate rotate_payload
 rotate_ends position name small = then_ends _ (number_gives 8 position (omega arith)) (made_ends (λ name. record { position = position; name = name }) (rest_ends name))
 
--- zeros are the number 0, and a bitmap with none of its bits set
+-- zero bytes are the number 0, and a bitmap with no bit set
 zeros_number : (i width count : ℕ) → little_from i width (zeros count) ≡ 0
 zeros_number i zero count = refl
 zeros_number i (suc width) count =
@@ -78,7 +79,7 @@ zeros_number i (suc width) count =
 pub zeros_clear : (count size : ℕ) → all_clear count (zeros size) ≡ true
 zeros_clear count size = rw (zeros_number 0 (length (zeros size)) size, zero-mod (2 ^ count)) refl
 
--- the columns of a table, by their types and metadata
+-- the types and the metadata of a table's columns are read as the columns
 types_are_types : (columns : List Column) → list_all is_type (map type_of columns) ≡ true
 types_are_types [] = refl
 types_are_types (Num ∷ columns) = types_are_types columns
@@ -101,7 +102,7 @@ columns_back (Text most ∷ columns) all =
     ap (λ (n : ℕ). Text n ∷ columns_from (map type_of columns) (all_metadata columns)) (little_number-reads_back 2 most (all_metadata columns) (let small = all.0 in omega arith))
     ∙ ap (λ (rest : List Column). Text most ∷ rest) (columns_back columns all.1)
 
--- the types of a data table
+-- the column types of a data table are accepted
 data_types : (table : Mapped) → IsReadableTable table → are_types table.schema table.name (map type_of table.columns) ≡ true
 data_types table readable = rw (readable.data_table, types_are_types table.columns) (first table.columns readable.key)
   where
@@ -109,7 +110,7 @@ data_types table readable = rw (readable.data_table, types_are_types table.colum
     first [] key = absurd (let no : Long ≡ Num = key in cc)
     first (column ∷ columns) key = let same : column ≡ Num = key in rw same refl
 
--- a table map
+-- the payload of a table map
 pub table_map_gives : (table : Mapped) → IsReadableTable table → Gives table_map (table_map_payload table) table
 unfolding table_map table_map_payload
 table_map_gives table readable =
@@ -133,7 +134,7 @@ table_map_gives table readable =
     (made_gives _ (that_gives fields.Null _ (zeros_clear (length table.columns) (bitmap_size (length table.columns))) (bytes_give (bitmap_size (length table.columns)) (zeros (bitmap_size (length table.columns))) (length-replicate (bitmap_size (length table.columns)) 0)))
     (ap (λ (columns : List Column). record { id = table.id; schema = table.schema; name = table.name; columns = columns }) (columns_back table.columns (recursion_from_All IsColumn table.columns readable.columns)))))))))))))))
 
--- the payloads that are fixed
+-- the payloads of BEGIN and of the format description, which are fixed
 pub begin_read : query (query_payload (codes "BEGIN")) 0 ≡ Read Begin 19
 unfolding query query_payload some_bytes number
 begin_read = refl

@@ -1,4 +1,4 @@
--- A field that was written is read as its value.
+-- A written field is read as its value.
 use Rattle.std.proofs.Common.{◌≡◌, ℕ, zero, suc, ◌+◌, ◌^◌, ◌<◌, ◌≤◌, Bool, true, false, List, [], ◌∷◌, ◌++◌, length, take, drop, inl, inr, refl, sym, ap, subst, ◌∙◌, arith, length-append, append_assoc}
 use Rattle.std.specs.Prelude.{◌==◌, ◌||◌, nat_le, nat_lt, if◌then◌else◌, Some}
 use Rattle.std.specs.Int.{byte_at}
@@ -10,32 +10,32 @@ use Rattle.std.proofs.lemmas.Bool.{le-leb, lt-ltb, le-ltb, cases_lt}
 use Rattle.std.proofs.lemmas.List.{append-nil, drop_at, take_at}
 use Rattle.byteorder.specs.Endian.{little_bytes, little_number}
 use Rattle.byteorder.specs.Numbers.{little_number-reads_back, length-bytes_low_first}
-use Rattle.rb_base.specs.Length.{length_bytes, length_read, width_behind}
+use Rattle.rb_base.specs.Length.{length_bytes, length_read, width_after}
 use Rattle.rb_base.specs.declared.faults.Field.{Field}
-use Rattle.rb_read_defs.specs.Reading.{Reader, Read, Short, behind, ◌>>=◌, give, some_bytes, number, length_number, the_rest, the_end, that}
+use Rattle.rb_read_defs.specs.Reading.{Reader, Read, Short, read_next, ◌>>=◌, give, some_bytes, number, length_number, the_rest, the_end, that}
 use Rattle.rb_read_defs.specs.Rows.{up_to_the_end, many}
 
--- a reader reads these bytes as this value, whatever stands before them and behind them
+-- a reader reads these bytes as this value, whatever comes before them and after them
 pub record Gives {X : Type 0} (read : Reader X) (field : List ℕ) (value : X) : Type 0 where
   pub reads : (before after : List ℕ) → read (before ++ (field ++ after)) (length before) ≡ Read value (length before + length field)
 
--- a reader reads these bytes as this value where nothing stands behind them
+-- a reader reads these bytes as this value if they are the last ones
 pub record Ends {X : Type 0} (read : Reader X) (field : List ℕ) (value : X) : Type 0 where
   pub reads : (before : List ℕ) → read (before ++ field) (length before) ≡ Read value (length before + length field)
 
--- a field with others behind it, or with nothing
+-- a field that can be followed by others can also be the last one
 pub gives_ends : {X : Type 0} {read : Reader X} {field : List ℕ} {value : X} → Gives read field value → Ends read field value
 gives_ends {X} {read} {field} {value} gives =
     record { reads = λ before. subst (λ (xs : List ℕ). read (before ++ xs) (length before) ≡ Read value (length before + length field)) (append-nil field) (gives.reads before []) }
 
--- at the beginning
+-- a field at the start of the bytes
 pub gives_at_start : {X : Type 0} {read : Reader X} {field : List ℕ} {value : X} → Gives read field value → (more : List ℕ) → read (field ++ more) 0 ≡ Read value (length field)
 gives_at_start {X} {read} {field} {value} gives more = gives.reads [] more ∙ ap (Read value) (let same : 0 + length field ≡ length field = omega arith in same)
 
 pub ends_at_start : {X : Type 0} {read : Reader X} {field : List ℕ} {value : X} → Ends read field value → read field 0 ≡ Read value (length field)
 ends_at_start {X} {read} {field} {value} ends = ends.reads [] ∙ ap (Read value) (let same : 0 + length field ≡ length field = omega arith in same)
 
--- one field, and then the next
+-- one field and then the next
 pub then_gives : {X Y : Type 0} {first : Reader X} {field rest : List ℕ} {x : X} {y : Y} (next : X → Reader Y) →
     Gives first field x → Gives (next x) rest y → Gives (first >>= next) (field ++ rest) y
 then_gives {X} {Y} {first} {field} {rest} {x} {y} next one two = record { reads = go }
@@ -48,7 +48,7 @@ then_gives {X} {Y} {first} {field} {rest} {x} {y} next one two = record { reads 
         let second : next x (before ++ (field ++ (rest ++ after))) (length before + length field) ≡ Read y (length before + length field + length rest) = rw (whole, ← place) (two.reads (before ++ field) after) in
         let end : length before + length field + length rest ≡ length before + length (field ++ rest) = omega arith in
         ap (λ (xs : List ℕ). (first >>= next) (before ++ xs) (length before)) (append_assoc field rest after)
-        ∙ ap (behind next (before ++ (field ++ (rest ++ after)))) (one.reads before (rest ++ after))
+        ∙ ap (read_next next (before ++ (field ++ (rest ++ after)))) (one.reads before (rest ++ after))
         ∙ second ∙ ap (Read y) end
 
 pub then_ends : {X Y : Type 0} {first : Reader X} {field rest : List ℕ} {x : X} {y : Y} (next : X → Reader Y) →
@@ -62,31 +62,31 @@ then_ends {X} {Y} {first} {field} {rest} {x} {y} next one two = record { reads =
         let l = length-append field rest in
         let second : next x (before ++ (field ++ rest)) (length before + length field) ≡ Read y (length before + length field + length rest) = rw (whole, ← place) (two.reads (before ++ field)) in
         let end : length before + length field + length rest ≡ length before + length (field ++ rest) = omega arith in
-        ap (behind next (before ++ (field ++ rest))) (one.reads before rest) ∙ second ∙ ap (Read y) end
+        ap (read_next next (before ++ (field ++ rest))) (one.reads before rest) ∙ second ∙ ap (Read y) end
 
--- what is read to the end, and what is made of it
+-- a value made of the last bytes
 pub made_ends : {X Y : Type 0} {read : Reader X} {field : List ℕ} {x : X} (make : X → Y) → Ends read field x → Ends (read >>= (λ x. give (make x))) field (make x)
-made_ends {X} {Y} {read} {field} {x} make ends = record { reads = λ before. ap (behind (λ x. give (make x)) (before ++ field)) (ends.reads before) }
+made_ends {X} {Y} {read} {field} {x} make ends = record { reads = λ before. ap (read_next (λ x. give (make x)) (before ++ field)) (ends.reads before) }
 
--- nothing is read
+-- a value for which no byte is read
 pub give_gives : {X : Type 0} (value : X) → Gives (give value) [] value
 give_gives value = record { reads = λ before after. ap (Read value) (let same : length before ≡ length before + 0 = omega arith in same) }
 
 pub give_ends : {X : Type 0} (value : X) → Ends (give value) [] value
 give_ends value = gives_ends (give_gives value)
 
--- what is made of the last field
+-- a value made of a field
 pub made_gives : {X Y : Type 0} {read : Reader X} {field : List ℕ} {x : X} {y : Y} (make : X → Y) → Gives read field x → make x ≡ y → Gives (read >>= (λ x. give (make x))) field y
-made_gives {X} {Y} {read} {field} {x} {y} make gives is = record { reads = λ before after. ap (behind (λ x. give (make x)) (before ++ (field ++ after))) (gives.reads before after) ∙ ap (λ (value : Y). Read value (length before + length field)) is }
+made_gives {X} {Y} {read} {field} {x} {y} make gives is = record { reads = λ before after. ap (read_next (λ x. give (make x)) (before ++ (field ++ after))) (gives.reads before after) ∙ ap (λ (value : Y). Read value (length before + length field)) is }
 
--- a field with a test that its value passes
+-- a field whose value passes its test
 pub that_gives : {X : Type 0} {read : Reader X} {bytes : List ℕ} {value : X} (field : Field) (passes : X → Bool) → passes value ≡ true → Gives read bytes value → Gives (that field passes read) bytes value
 that_gives {X} {read} {bytes} {value} field passes passed gives = record { reads = λ before after. rw (gives.reads before after, passed) refl }
 
 pub that_ends : {X : Type 0} {read : Reader X} {bytes : List ℕ} {value : X} (field : Field) (passes : X → Bool) → passes value ≡ true → Ends read bytes value → Ends (that field passes read) bytes value
 that_ends {X} {read} {bytes} {value} field passes passed ends = record { reads = λ before. rw (ends.reads before, passed) refl }
 
--- so many bytes
+-- a field of `count` bytes
 pub bytes_give : (count : ℕ) (field : List ℕ) → length field ≡ count → Gives (some_bytes count) field field
 unfolding some_bytes
 bytes_give count field long = record { reads = go }
@@ -97,7 +97,7 @@ bytes_give count field long = record { reads = go }
         let inner = length-append field after in
         rw (le-leb (length before + count) (length (before ++ (field ++ after))) (omega arith), drop_at before (field ++ after) (length before) refl, take_at field after count long, long) refl
 
--- a number of so many bytes
+-- a number of `width` bytes
 pub number_gives : (width n : ℕ) → n < 256 ^ width → Gives (number width) (little_bytes width n) n
 unfolding number
 number_gives width n small = record { reads = go }
@@ -109,11 +109,11 @@ number_gives width n small = record { reads = go }
         let long : length (little_bytes width n) ≡ width = length-bytes_low_first 0 width n in
         rw (le-leb (length before + width) (length (before ++ (little_bytes width n ++ after))) (omega arith), drop_at before (little_bytes width n ++ after) (length before) refl, little_number-reads_back width n after small, long) refl
 
--- all bytes that are left
+-- all bytes that remain
 pub rest_ends : (field : List ℕ) → Ends the_rest field field
 rest_ends field = record { reads = λ before. rw (drop_at before field (length before) refl, length-append before field) refl }
 
--- the bytes' end
+-- the end of the bytes
 pub end_ends : Ends the_end [] tt
 end_ends = record { reads = λ before. rw (append-nil before) (rw (let same : (length before == length before) ≡ true = grind arith in same) (ap (Read tt) (let same : length before ≡ length before + 0 = omega arith in same))) }
 
@@ -132,8 +132,8 @@ short_gives field n small = record {
       rw (byte_there before after n, own, lt-ltb n 251 small) refl;
 }
 
--- a length-encoded number behind a byte that says how many bytes it has
-wide_gives : (field : Field) (first width n : ℕ) → ((first == 251) || (first == 255)) ≡ false → nat_lt first 251 ≡ false → width_behind first ≡ width → n < 256 ^ width →
+-- a length-encoded number whose first byte gives its width
+wide_gives : (field : Field) (first width n : ℕ) → ((first == 251) || (first == 255)) ≡ false → nat_lt first 251 ≡ false → width_after first ≡ width → n < 256 ^ width →
     Gives (length_number field) (first ∷ little_bytes width n) n
 unfolding length_number length_read
 wide_gives field first width n other wide size small = record {
@@ -163,7 +163,7 @@ length_gives field n small = elim (cases_lt n 251) [
   ]
 ]
 
--- all that there are up to the end: none, or one and those behind it
+-- a list of no items
 pub none_ends : {X : Type 0} (read : Reader X) (most : ℕ) → Ends (up_to_the_end most read) [] []
 none_ends read zero = gives_ends (give_gives [])
 none_ends read (suc most) = record { reads = λ before. rw (append-nil before) (rw (let same : (length before == length before) ≡ true = grind (arith, nat_tests) in same) (ap (Read []) (let end : length before ≡ length before + 0 = omega arith in end))) }
@@ -178,11 +178,11 @@ more_ends read most field rest item items one some others = record {
       rw (let no : (length before == length (before ++ (field ++ rest))) ≡ false = grind (arith, nat_tests) in no) ((then_ends (λ item. up_to_the_end most read >>= (λ items. give (item ∷ items))) one left).reads before);
 }
 
--- enough tries are as many as there are bytes
+-- the number of bytes is enough as the number of rounds
 pub all_end : {X : Type 0} (read : Reader X) (count : ℕ) (field : List ℕ) (items : List X) → count ≤ length field → ((most : ℕ) → count ≤ most → Ends (up_to_the_end most read) field items) → Ends (many read) field items
 all_end read count field items few ends = record { reads = λ before. let l = length-append before field in (ends (length (before ++ field)) (omega arith)).reads before }
 
--- one of them, and two
+-- a list of one item, and of two
 pub one_ends : {X : Type 0} {read : Reader X} {field : List ℕ} {item : X} → Gives read field item → 0 < length field → Ends (many read) field (item ∷ [])
 one_ends {X} {read} {field} {item} one some = all_end read 1 field (item ∷ []) (omega arith) go
   where
@@ -201,7 +201,7 @@ two_end {X} {read} {field} {other} {item} {next} one some two more = all_end rea
     go (suc zero) few = absurd (omega arith)
     go (suc (suc most)) few = more_ends read (suc most) field other item (next ∷ []) one some (last most)
 
--- a byte
+-- a number of one byte
 pub byte_gives : (n : ℕ) → n < 256 → Gives (number 1) (n ∷ []) n
 byte_gives n small =
     let same : little_bytes 1 n ≡ n ∷ [] = ap (λ (byte : ℕ). byte ∷ []) (let one : byte_at 0 n ≡ n = omega arith in one) in

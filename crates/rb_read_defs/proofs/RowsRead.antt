@@ -1,4 +1,4 @@
--- A rows event that was written is read as its rows.
+-- A written rows event is read as its rows.
 use Rattle.std.proofs.Common.{◌≡◌, ℕ, ◌+◌, ◌-◌, ◌*◌, ◌%◌, ◌^◌, ◌<◌, ◌≤◌, true, false, List, [], ◌∷◌, ◌++◌, length, get_or, refl, sym, ap, ◌∙◌, arith, inl, inr, append_assoc, length-append}
 use Rattle.std.specs.Prelude.{◌==◌, nat_le, if◌then◌else◌, Option, Some, None}
 use Rattle.std.proofs.lemmas.Bool.{le-leb, lt-leb, cases_lt}
@@ -30,7 +30,7 @@ use Rattle.rb_log_defs.specs.Fits.{FitsColumn, FitsColumns, FitsKind}
 use Rattle.rb_read_defs.specs.Reading.{Read, ◌>>=◌, give, number}
 use Rattle.rb_read_defs.specs.Events.{all_set, used_bits}
 use Rattle.rb_read_defs.specs.Rows.{value_in, is_key, values_in, image, number_in, images, key_of, many, transid_in, present, presents, rows_head, changes, statuses}
-use Rattle.rb_read_defs.specs.Readable.{IsColumn, IsValue, HasKey, HasValues, IsReadableTable, IsReadableChange, IsReflected, told_rows}
+use Rattle.rb_read_defs.specs.Readable.{IsColumn, IsValue, HasKey, HasValues, IsReadableTable, IsReadableChange, IsReflected, status_rows_of}
 use Rattle.rb_read_defs.proofs.Fields.{Gives, Ends, gives_at_start, then_gives, then_ends, give_gives, made_gives, that_gives, bytes_give, number_gives, length_gives, one_ends, two_end}
 use Rattle.rb_read_defs.proofs.EventsRead.{zeros_clear}
 
@@ -95,7 +95,7 @@ key_there rest [] key fits is = absurd fits
 key_there rest (values.Num n ∷ values) key fits is = let same : n ≡ key = is in grind (arith, nat_tests)
 key_there rest (values.Text text ∷ values) key fits is = absurd fits.0
 
--- the images of a change
+-- the row images of a change
 images_give : (kind : Kind) (rest : List Column) (before after : Option Row) (key : ℕ) → AllByRecursion IsColumn (columns.Num ∷ rest) → FitsKind kind (columns.Num ∷ rest) before after →
     HasValues before → HasValues after → HasKey key before → HasKey key after → Gives (images kind (columns.Num ∷ rest)) (images_of kind (columns.Num ∷ rest) before after) (before, after)
 images_give Insert rest None (Some row) key room fits earlier later key_before key_after =
@@ -112,7 +112,7 @@ images_give Update rest (Some row) None key room fits earlier later key_before k
 images_give Remove rest None after key room fits earlier later key_before key_after = absurd fits.0
 images_give Remove rest (Some row) (Some new) key room fits earlier later key_before key_after = absurd (let no : true ≡ false = fits.1 in cc)
 
--- a bitmap in which all are present
+-- a present bitmap in which all columns are present is accepted
 present_set : (columns : ℕ) → all_set columns (present_bitmap columns) ≡ true
 present_set columns =
     let size : ℕ = bitmap_size columns in
@@ -133,7 +133,7 @@ presents_give Insert columns = present_gives columns
 presents_give Update columns = then_gives (λ before. present columns) (present_gives columns) (present_gives columns)
 presents_give Remove columns = present_gives columns
 
--- what stands before the rows
+-- the part of the payload before the rows
 head_bytes : (table flags : ℕ) (extra : List ℕ) (columns : ℕ) (present : List ℕ) → List ℕ
 head_bytes table flags extra columns present = little_bytes 6 table ++ (little_bytes 2 flags ++ (little_bytes 2 (2 + length extra) ++ (extra ++ (length_bytes columns ++ present))))
 
@@ -172,7 +172,7 @@ images_some Update columns (Some old) (Some new) fits some =
 images_some Remove columns None after fits some = absurd fits.0
 images_some Remove columns (Some row) after fits some = image_some columns row some
 
--- the key that the images of a change have
+-- the key in the row images of a change
 key_back : (kind : Kind) (columns : List Column) (before after : Option Row) (key : ℕ) → FitsKind kind columns before after → HasKey key before → HasKey key after → key_of (before, after) ≡ key
 key_back kind columns (Some old) after key fits earlier later = earlier
 key_back kind columns None (Some new) key fits earlier later = later
@@ -207,7 +207,7 @@ pub end_flag_small : (changes : List Change) → end_flag changes < 2 ^ 16
 end_flag_small [] = omega arith
 end_flag_small (change ∷ changes) = omega arith
 
-pub statuses_end : (body : EpochBody) → body.server < 2 ^ 32 → body.epoch.0 < 2 ^ 64 → IsReflected body.reflected → Ends (statuses status_table) (status_payload body) (told_rows body)
+pub statuses_end : (body : EpochBody) → body.server < 2 ^ 32 → body.epoch.0 < 2 ^ 64 → IsReflected body.reflected → Ends (statuses status_table) (status_payload body) (status_rows_of body)
 unfolding statuses status_payload
 statuses_end body server epoch reflected =
     rw (payload_parts 0 (end_flag body.changes) [] (length status_columns) (present_bitmap (length status_columns)) (status_rows body))
@@ -215,13 +215,13 @@ statuses_end body server epoch reflected =
   where
     by_reflected : (other : Option Epoch) → IsReflected other →
         Ends (many (image status_columns None >>= (λ row. give (record { server = number_in row 0; epoch = record { 0 = number_in row 1 } }))))
-        (row_image status_columns (status_row body.server body.epoch.0) ++ reflected_row other) (told_rows (record { server = body.server; epoch = body.epoch; reflected = other; tables = []; changes = [] }))
+        (row_image status_columns (status_row body.server body.epoch.0) ++ reflected_row other) (status_rows_of (record { server = body.server; epoch = body.epoch; reflected = other; tables = []; changes = [] }))
     by_reflected None small = rw (append-nil (row_image status_columns (status_row body.server body.epoch.0))) (one_ends (made_gives _ (status_image body.server body.epoch.0 server epoch) refl) (image_some status_columns (status_row body.server body.epoch.0) (omega arith)))
     by_reflected (Some other) small =
         two_end (made_gives _ (status_image body.server body.epoch.0 server epoch) refl) (image_some status_columns (status_row body.server body.epoch.0) (omega arith))
         (made_gives _ (status_image 1 other.0 (omega arith) small) refl) (image_some status_columns (status_row 1 other.0) (omega arith))
 
--- the columns of a data table
+-- the first column of a data table is a number
 pub key_first : (all : List Column) → get_or all 0 columns.Long ≡ columns.Num → (rest : List Column) × (all ≡ columns.Num ∷ rest)
 key_first [] key = absurd (let no : columns.Long ≡ columns.Num = key in cc)
 key_first (column ∷ rest) key = (rest, ap (λ (first : Column). first ∷ rest) key)
@@ -233,7 +233,7 @@ change_ends table server flags change readable fits same two =
     let (rest, first) = key_first table.columns readable.key in
     changes_end table server flags change rest first (recursion_from_All IsColumn table.columns readable.columns) readable.id readable.mapped.few fits same two
 
--- a rows event begins with its table's id
+-- a rows event begins with the id of its table
 pub table_first : (table flags : ℕ) (extra : List ℕ) (columns : ℕ) (present rows : List ℕ) → table < 2 ^ 48 → number 6 (rows_payload table flags extra columns present rows) 0 ≡ Read table 6
 unfolding rows_payload
 table_first table flags extra columns present rows small =

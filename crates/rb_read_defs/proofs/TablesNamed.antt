@@ -1,4 +1,5 @@
--- The tables that changes name ascend by their ids, so that each id is one table's, from either end.
+-- The tables that changes name are in ascending order of their ids, so each id has one table,
+-- whichever end the search starts from.
 use Rattle.std.proofs.Common.{◌≡◌, ℕ, ◌<◌, ◌≤◌, Bool, true, false, List, [], ◌∷◌, map, refl, ap, ◌∙◌, arith, inl, inr}
 use Rattle.std.specs.Prelude.{◌==◌, ◌||◌, nat_lt, if◌then◌else◌, fold, find, Option, Some}
 use Rattle.std.proofs.lemmas.Bool.{lt-ltb, le-ltb, cases_lt}
@@ -9,12 +10,12 @@ use Rattle.rb_base.specs.declared.schema.Mapped.{Mapped}
 use Rattle.rb_base.specs.declared.change.Change.{Change}
 use Rattle.rb_read_defs.specs.Stream.{among, tables_named}
 
--- ids that ascend
+-- ids in ascending order
 abbrev pub Ascend : List ℕ → Type 0
 Ascend [] = Unit {0}
 Ascend (id ∷ ids) = AllByRecursion (λ other. id < other) ids × Ascend ids
 
--- an id is among these
+-- an id is one of these
 abbrev pub has : ℕ → List ℕ → Bool
 has id ids = list_any (λ other. other == id) ids
 
@@ -42,14 +43,14 @@ among_ascends id (x ∷ xs) up = elim (cases_lt id x) [
     go above rest true is = up
     go above rest false is = (below_more x id xs (grind (arith, nat_tests)) up.0, rest)
 
--- one id more
+-- one more id leaves the others in the list
 keeps : (other id : ℕ) (ids : List ℕ) → has other ids ≡ true → has other (among id ids) ≡ true
 keeps other id [] is = absurd (let no : false ≡ true = is in cc)
 keeps other id (x ∷ xs) is = go (nat_lt id x) (id == x) (keeps other id xs)
   where
-    behind : (has other xs ≡ true → has other (among id xs) ≡ true) → (b : Bool) → (b || has other xs) ≡ true → (b || has other (among id xs)) ≡ true
-    behind rest true is = refl
-    behind rest false is = rest is
+    following : (has other xs ≡ true → has other (among id xs) ≡ true) → (b : Bool) → (b || has other xs) ≡ true → (b || has other (among id xs)) ≡ true
+    following rest true is = refl
+    following rest false is = rest is
 
     front : (b c : Bool) → c ≡ true → (b || c) ≡ true
     front true c is = refl
@@ -58,7 +59,7 @@ keeps other id (x ∷ xs) is = go (nat_lt id x) (id == x) (keeps other id xs)
     go : (b c : Bool) → (has other xs ≡ true → has other (among id xs) ≡ true) → has other (if b then id ∷ x ∷ xs else (if c then x ∷ xs else x ∷ among id xs)) ≡ true
     go true c rest = front (id == other) ((x == other) || has other xs) is
     go false true rest = is
-    go false false rest = behind rest (x == other) is
+    go false false rest = following rest (x == other) is
 
 pub same_id : (id : ℕ) → (id == id) ≡ true
 same_id id = grind (arith, nat_tests)
@@ -76,7 +77,7 @@ there id (x ∷ xs) = go (nat_lt id x) (id == x) refl (there id xs)
     go false true is rest = let b : (x == id) ≡ true = grind (arith, nat_tests) in rw b refl
     go false false is rest = front (x == id) (has id (among id xs)) rest
 
--- all that changes name
+-- these ids together with those of the changes
 abbrev named_from : List ℕ → List Change → List ℕ
 named_from ids changes = fold (λ ids change. among change.table ids) ids changes
 
@@ -101,38 +102,38 @@ tables_ascend changes = named_ascend [] changes tt
 pub tables_all : (changes : List Change) → AllByRecursion (λ change. has change.table (tables_named changes) ≡ true) changes
 tables_all changes = named_all [] changes
 
--- tables in front of others, the last one first
-abbrev pub front_of : List Mapped → List Mapped → List Mapped
-front_of [] others = others
-front_of (table ∷ tables) others = front_of tables (table ∷ others)
+-- these tables before the others, the last one first
+abbrev pub prefix_of : List Mapped → List Mapped → List Mapped
+prefix_of [] others = others
+prefix_of (table ∷ tables) others = prefix_of tables (table ∷ others)
 
 -- the ids of tables
 abbrev pub ids_of : List Mapped → List ℕ
 ids_of tables = map (λ table. table.id) tables
 
--- the first table of an id
+-- the first table with this id
 abbrev pub find_id : ℕ → List Mapped → Option Mapped
 find_id id tables = find (λ table. table.id == id) tables
 
-pub not_later : (id : ℕ) (tables others : List Mapped) → AllByRecursion (λ other. id < other) (ids_of tables) → find_id id (front_of tables others) ≡ find_id id others
+pub not_later : (id : ℕ) (tables others : List Mapped) → AllByRecursion (λ other. id < other) (ids_of tables) → find_id id (prefix_of tables others) ≡ find_id id others
 not_later id [] others all = refl
 not_later id (table ∷ tables) others all =
     let more : id < table.id = all.0 in
     let no : (table.id == id) ≡ false = grind (arith, nat_tests) in
     not_later id tables (table ∷ others) all.1 ∙ rw no refl
 
--- each table by its id
-pub tables_back : (tables others : List Mapped) → Ascend (ids_of tables) → flat_map (λ id. option_map_or (λ table. table ∷ []) (find_id id (front_of tables others)) []) (ids_of tables) ≡ tables
+-- looking up the ids of these tables gives these tables
+pub tables_back : (tables others : List Mapped) → Ascend (ids_of tables) → flat_map (λ id. option_map_or (λ table. table ∷ []) (find_id id (prefix_of tables others)) []) (ids_of tables) ≡ tables
 tables_back [] others up = refl
 tables_back (table ∷ tables) others up =
-    let found : find_id table.id (front_of tables (table ∷ others)) ≡ Some table = not_later table.id tables (table ∷ others) up.0 ∙ rw (same_id table.id) refl in
+    let found : find_id table.id (prefix_of tables (table ∷ others)) ≡ Some table = not_later table.id tables (table ∷ others) up.0 ∙ rw (same_id table.id) refl in
     rw found (ap (λ (rest : List Mapped). table ∷ rest) (tables_back tables (table ∷ others) up.1))
 
--- a table of an id that they have, the same from either end
+-- a table with an id that these tables have; it is the same from either end
 pub record IsTable (P : Mapped → Type 0) (id : ℕ) (tables others : List Mapped) : Type 0 where
   pub table : Mapped
   pub first : find_id id tables ≡ Some table
-  pub last : find_id id (front_of tables others) ≡ Some table
+  pub last : find_id id (prefix_of tables others) ≡ Some table
   pub id_is : table.id ≡ id
   pub passes : P table
 

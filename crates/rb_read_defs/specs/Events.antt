@@ -1,5 +1,6 @@
--- Events as they are read: the header, the format description, BEGIN and COMMIT, rotations, XID and table maps. After the chapter
--- of the binary log's format on event types; what is not looked at may have any value.
+-- Events as they are read: the header, the format description, BEGIN and COMMIT, rotations, XID and
+-- table maps. The event types are those of the binlog format. A field that readers ignore may have
+-- any value.
 use Rattle.std.specs.Prelude.{ℕ, ◌+◌, ◌*◌, ◌-◌, ◌/◌, ◌%◌, ◌^◌, ◌==◌, nat_le, true, ◌&&◌, ◌||◌, Bool, if◌then◌else◌, List, [], ◌∷◌, length, drop, count_by, get_or, codes}
 use Rattle.std.specs.List.{list_all, list_any}
 use Rattle.std.specs.Str.{bytes_eq}
@@ -16,7 +17,8 @@ use Rattle.rb_read_defs.specs.declared.answers.QueryText.{QueryText}
 use Rattle.rb_read_defs.specs.declared.answers.QueryText.TheVariants.{Begin, Commit}
 use Rattle.rb_read_defs.specs.declared.answers.RotateTo.{RotateTo}
 
--- the event types that are written: QUERY, ROTATE, FORMAT_DESCRIPTION, XID, TABLE_MAP, and the three kinds of rows events
+-- the event types that this program writes: QUERY, ROTATE, FORMAT_DESCRIPTION, XID, TABLE_MAP, and
+-- the three kinds of rows events
 abbrev pub known_types : List ℕ
 known_types = 2 ∷ 4 ∷ 15 ∷ 16 ∷ 19 ∷ 30 ∷ 31 ∷ 32 ∷ []
 
@@ -24,17 +26,18 @@ known_types = 2 ∷ 4 ∷ 15 ∷ 16 ∷ 19 ∷ 30 ∷ 31 ∷ 32 ∷ []
 abbrev pub is_known : (kind : ℕ) → Bool
 is_known kind = list_any (λ known. known == kind) known_types
 
--- LOG_EVENT_IGNORABLE_F: a reader that does not know the event's type skips it
+-- LOG_EVENT_IGNORABLE_F: a reader that does not know the event's type skips the event
 abbrev pub is_ignorable : (flags : ℕ) → Bool
 is_ignorable flags = flags / 128 % 2 == 1
 
--- an event may have this type: it is known, or the flags, as far as they are there, let the event be skipped
+-- an event may have this type: the type is known, or the flags allow the event to be skipped; flags
+-- that are not complete yet are not judged
 abbrev pub may_be_type : (flags : Reading ℕ) → (kind : ℕ) → Bool
 may_be_type (Read flags after) kind = is_known kind || is_ignorable flags
 may_be_type (Short place) kind = true
 may_be_type (Wrong place field) kind = true
 
--- an event's type; its flags stand 13 bytes behind it
+-- an event's type; its flags come 13 bytes after the type
 unfoldable pub event_type : Reader ℕ
 event_type = λ bytes at. that fields.EventType (may_be_type (number 2 bytes (at + 13))) (number 1) bytes at
 
@@ -49,11 +52,12 @@ header start = do
   flags ← number 2
   give (record { kind = kind; server = server; size = size; end = end; flags = flags })
 
--- the lengths of post-headers: at least 32, with those of the types that are written
+-- the post-header lengths: at least 32 of them, with the right length for each type that is written
 abbrev pub are_post_headers : List ℕ → Bool
 are_post_headers lengths = nat_le 32 (length lengths) && list_all (λ kind. get_or lengths (kind - 1) 0 == get_or post_header_lengths (kind - 1) 0) known_types
 
--- FORMAT_DESCRIPTION_EVENT: version, the server's version, create time, header length, lengths of post-headers
+-- FORMAT_DESCRIPTION_EVENT: version, server version, create time, header length, post-header
+-- lengths
 unfoldable pub format : Reader (Unit {0})
 format = do
   version ← that fields.Version (λ version. version == 4) (number 2)
@@ -63,15 +67,16 @@ format = do
   lengths ← that fields.PostHeader are_post_headers the_rest
   give tt
 
--- the two texts of a query
+-- a query text that is accepted: BEGIN or COMMIT
 abbrev pub is_text : List ℕ → Bool
 is_text text = bytes_eq text (codes "BEGIN") || bytes_eq text (codes "COMMIT")
 
--- what such a text says
+-- the meaning of such a text
 abbrev pub text_of : List ℕ → QueryText
 text_of text = if bytes_eq text (codes "BEGIN") then Begin else Commit
 
--- QUERY_EVENT: thread id, time, length of the schema, error code, length of the status variables, these two, a byte, the text
+-- QUERY_EVENT: thread id, time, length of the schema's name, error code, length of the status
+-- variables, the status variables, the schema's name, a byte, the text
 unfoldable pub query : Reader QueryText
 query = do
   thread ← number 4
@@ -85,7 +90,7 @@ query = do
   text ← that fields.QueryText is_text the_rest
   give (text_of text)
 
--- XID_EVENT: the transaction's number, and nothing behind it
+-- XID_EVENT: the transaction's number, and no further byte
 unfoldable pub xid : Reader ℕ
 xid = do
   xid ← number 8
@@ -99,15 +104,15 @@ rotate = do
   name ← the_rest
   give (record { position = position; name = name })
 
--- the first so many bits of a bitmap, as a number
+-- the first `count` bits of a bitmap, as a number
 abbrev pub used_bits : (count : ℕ) → List ℕ → ℕ
 used_bits count bitmap = little_number (length bitmap) bitmap % 2 ^ count
 
--- none of the first so many bits is 1, as in a null bitmap
+-- each of the first `count` bits is 0, as required of a null bitmap
 abbrev pub all_clear : (count : ℕ) → List ℕ → Bool
 all_clear count bitmap = used_bits count bitmap == 0
 
--- each of the first so many bits is 1, as in a present bitmap
+-- each of the first `count` bits is 1, as required of a present bitmap
 abbrev pub all_set : (count : ℕ) → List ℕ → Bool
 all_set count bitmap = used_bits count bitmap == 2 ^ count - 1
 
@@ -115,29 +120,31 @@ all_set count bitmap = used_bits count bitmap == 2 ^ count - 1
 abbrev pub is_status : (schema name : List ℕ) → Bool
 is_status schema name = bytes_eq schema (codes "mysql") && bytes_eq name (codes "ndb_apply_status")
 
--- a column's type: LONG, LONGLONG, VARCHAR
+-- a column type that is accepted: LONG, LONGLONG or VARCHAR
 abbrev pub is_type : ℕ → Bool
 is_type kind = (kind == 3) || (kind == 8) || (kind == 15)
 
--- types that a table can have: the status table its own, another one a LONGLONG at first
+-- column types that a table may have: the apply-status table has exactly its own; any other table
+-- has a LONGLONG first
 abbrev pub are_types : (schema name : List ℕ) → List ℕ → Bool
 are_types schema name types =
     if is_status schema name then bytes_eq types (3 ∷ 8 ∷ 15 ∷ 8 ∷ 8 ∷ [])
     else list_all is_type types && (get_or types 0 0 == 8)
 
--- how many bytes of metadata types have: two for each VARCHAR
+-- the length of the metadata in bytes: two for each VARCHAR
 abbrev pub metadata_size : (types : List ℕ) → ℕ
 metadata_size types = 2 * count_by (λ kind. kind == 15) types
 
--- the columns of these types with their metadata
+-- the columns with these types and this metadata
 abbrev pub columns_from : (types metadata : List ℕ) → List Column
 columns_from [] metadata = []
 columns_from (kind ∷ types) metadata =
     if kind == 15 then Text (little_number 2 metadata) ∷ columns_from types (drop 2 metadata)
     else (if kind == 3 then Long else Num) ∷ columns_from types metadata
 
--- TABLE_MAP_EVENT: table id, flags, the schema's name, the table's name, the columns' types, their metadata, which may be NULL:
--- none; what is behind that is not looked at
+-- TABLE_MAP_EVENT: table id, flags, the schema's name, the table's name, the types of the columns,
+-- their metadata, and a bitmap of the columns that may be NULL, which is all zero; bytes after that
+-- are ignored
 unfoldable pub table_map : Reader Mapped
 table_map = do
   id ← that fields.TableId (λ id. nat_le id 65535) (number 6)

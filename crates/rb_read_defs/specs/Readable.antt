@@ -1,5 +1,5 @@
--- What is read back as it was written: tables, changes and epochs that have room in the fields of the log, and a form that a reader
--- can tell.
+-- What is read as it was written: tables, changes and epochs that have room in the fields of the
+-- log and a form that a reader accepts.
 use Rattle.std.specs.Prelude.{◌≡◌, ◌<◌, ◌≤◌, ◌+◌, ◌^◌, ℕ, false, List, [], ◌∷◌, ◌++◌, length, map, get_or, All, Option, Some, None, IsNone}
 use Rattle.rb_base.specs.declared.schema.Column.{Column}
 use Rattle.rb_base.specs.declared.schema.Column.TheVariants as columns
@@ -19,13 +19,14 @@ use Rattle.rb_read_defs.specs.Stream.{Known, cuts, is_open, is_rotated, seen_fro
 use Rattle.rb_read_defs.specs.declared.answers.StatusRow.{StatusRow}
 use Rattle.rb_read_defs.specs.declared.answers.Step.TheVariants.{Epoch as EpochStep}
 
--- a column whose maximum, where it has one, has room in its metadata
+-- a column whose maximum length, if it has one, has room in the metadata
 abbrev pub IsColumn : Column → Type 0
 IsColumn columns.Num = Unit {0}
 IsColumn columns.Long = Unit {0}
 IsColumn (columns.Text most) = most < 65536
 
--- a data table: one that a table map event can name, other than mysql.ndb_apply_status, with its key in the first column
+-- a data table: a table other than mysql.ndb_apply_status that a table map event can name and whose
+-- first column is the key
 pub record IsReadableTable (table : Mapped) : Type 0 where
   pub mapped : CanBeMapped table
   pub id : table.id < 65536
@@ -38,17 +39,17 @@ abbrev pub IsValue : Value → Type 0
 IsValue (values.Num n) = n < 2 ^ 64
 IsValue (values.Text text) = Unit {0}
 
--- an image, where it is there, has this key
+-- a row image, if there is one, has this key
 abbrev pub HasKey : (key : ℕ) → Option Row → Type 0
 HasKey key None = Unit {0}
 HasKey key (Some row) = number_in row 0 ≡ key
 
--- the values of an image, where it is there, have room
+-- the values of a row image, if there is one, have room in their fields
 abbrev pub HasValues : Option Row → Type 0
 HasValues None = Unit {0}
 HasValues (Some row) = All IsValue row.values
 
--- a change of a data table by the server that writes it, whose images have its key
+-- a change of a data table by the server that writes it, with the change's key in each row image
 pub record IsReadableChange (server : ℕ) (columns : List Column) (change : Change) : Type 0 where
   pub fits : Fits columns change
   pub before : HasValues change.before
@@ -58,22 +59,23 @@ pub record IsReadableChange (server : ℕ) (columns : List Column) (change : Cha
   pub author : change.author ≡ server
   pub transid : change.transid < 2 ^ 64
 
--- an epoch, where one is reflected, has 64 bits
+-- the reflected epoch, if there is one, has 64 bits
 abbrev pub IsReflected : Option Epoch → Type 0
 IsReflected None = Unit {0}
 IsReflected (Some epoch) = epoch.0 < 2 ^ 64
 
--- the apply-status rows of an epoch as they are read: its server's own, and server 1's where the epoch reflects one of its
-abbrev pub told_rows : EpochBody → List StatusRow
-told_rows body = record { server = body.server; epoch = body.epoch } ∷ reflected body.reflected
+-- the apply-status rows of an epoch as they are read: the row of its own server, and a row of
+-- server 1 if the epoch reflects one of that server's epochs
+abbrev pub status_rows_of : EpochBody → List StatusRow
+status_rows_of body = record { server = body.server; epoch = body.epoch } ∷ reflected body.reflected
   where
     reflected : Option Epoch → List StatusRow
     reflected None = []
     reflected (Some epoch) = record { server = 1; epoch = epoch } ∷ []
 
--- an epoch that is read back as it was written: its numbers have room; server 1 reflects none; the tables are those named by the
--- changes, in the order of their ids, of which none is 0, the apply-status table's; each change fits its table; and no event is longer
--- than a reader accepts
+-- an epoch that is read as it was written: its numbers have room; server 1 reflects no epoch; its
+-- tables are those that its changes name, in the order of their ids, without id 0, the apply-status
+-- table's; each change fits its table; and no event is longer than a reader accepts
 pub record IsReadable (body : EpochBody) : Type 0 where
   pub server : body.server < 2 ^ 32
   pub epoch : body.epoch.0 < 2 ^ 64
@@ -85,8 +87,9 @@ pub record IsReadable (body : EpochBody) : Type 0 where
   pub changes : All (λ change. IsReadableChange body.server (columns_of body.tables change.table) change) body.changes
   pub sizes : All (λ event. length (event 0) ≤ 2147483647) (epoch_events body)
 
--- an epoch that starts at a position behind some events is read back: it is seen as events in front of them, whose steps are that
--- epoch's and no other, and with which the epoch is over; and what stands behind it is seen as if it stood alone, behind these events
+-- an epoch that starts at this position is read as it was written, after these earlier events: its
+-- bytes give events whose only step is this epoch and after which no epoch is open; the bytes after
+-- it are read as if they stood alone
 pub record IsReadBack (body : EpochBody) (start : ℕ) (earlier : List Known) : Type 0 where
   pub events : List Known
   pub steps : steps_of (events ++ earlier) ≡ steps_of earlier ++ EpochStep body (start + length (epoch_bytes body start)) ∷ []

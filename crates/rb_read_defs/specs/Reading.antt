@@ -1,4 +1,4 @@
--- What the bytes of an event give, field by field, in the order in which the fields stand.
+-- The reading of an event's bytes, field by field, in the order of the fields.
 use Rattle.std.specs.Prelude.{ℕ, ◌+◌, ◌==◌, nat_le, Bool, if◌then◌else◌, List, length, take, drop, Result, Ok, Err}
 use Rattle.byteorder.specs.Endian.{little_number}
 use Rattle.rb_base.specs.Length.{length_read}
@@ -9,45 +9,45 @@ use Rattle.rb_base.specs.declared.faults.CodecFault.TheVariants as faults
 use Rattle.rb_base.specs.declared.faults.LengthRead.{LengthRead}
 use Rattle.rb_base.specs.declared.faults.LengthRead.TheVariants as lengths
 
--- what was read, and the place behind it; or the place of a field that does not end within the bytes; or the place of one that is
--- whole and wrong, and which it is
+-- the value that was read and the place after it; or the place of a field that does not end within
+-- the bytes; or the place of a complete field that is wrong, and which field it is
 pub data Reading (X : Type 0) : Type 0 where
   Read : (value : X) → (after : ℕ) → Reading X
   Short : (at : ℕ) → Reading X
   Wrong : (at : ℕ) → (field : Field) → Reading X
 
--- what stands in some bytes from a place on
+-- the reading of a value from a place of some bytes
 abbrev pub Reader : Type 0 → Type 0
 Reader X = (bytes : List ℕ) → (at : ℕ) → Reading X
 
--- what stands behind something that was read
-abbrev pub behind : {X Y : Type 0} → (X → Reader Y) → (bytes : List ℕ) → Reading X → Reading Y
-behind next bytes (Read value after) = next value bytes after
-behind next bytes (Short at) = Short at
-behind next bytes (Wrong at field) = Wrong at field
+-- the reading that follows a value that was read
+abbrev pub read_next : {X Y : Type 0} → (X → Reader Y) → (bytes : List ℕ) → Reading X → Reading Y
+read_next next bytes (Read value after) = next value bytes after
+read_next next bytes (Short at) = Short at
+read_next next bytes (Wrong at field) = Wrong at field
 
--- one field, and then the next
+-- one field and then the next
 infixl 10 ◌>>=◌
 abbrev pub ◌>>=◌ : {X Y : Type 0} → Reader X → (X → Reader Y) → Reader Y
-first >>= next = λ bytes at. behind next bytes (first bytes at)
+first >>= next = λ bytes at. read_next next bytes (first bytes at)
 
--- nothing is read any more
+-- a value for which no byte is read
 abbrev pub give : {X : Type 0} → X → Reader X
 give value = λ bytes at. Read value at
 
--- so many bytes
+-- the next `count` bytes
 unfoldable pub some_bytes : (count : ℕ) → Reader (List ℕ)
 some_bytes count = λ bytes at. if nat_le (at + count) (length bytes) then Read (take count (drop at bytes)) (at + count) else Short at
 
--- a number of so many bytes, its lowest byte first
+-- a number of `width` bytes, the lowest byte first
 unfoldable pub number : (width : ℕ) → Reader ℕ
 number width = λ bytes at. if nat_le (at + width) (length bytes) then Read (little_number width (drop at bytes)) (at + width) else Short at
 
--- all bytes that are left
+-- all bytes that remain
 abbrev pub the_rest : Reader (List ℕ)
 the_rest = λ bytes at. Read (drop at bytes) (length bytes)
 
--- a field that is wrong where it does not pass a test
+-- a field that is wrong if its value does not pass this test
 abbrev pub that : {X : Type 0} → Field → (X → Bool) → Reader X → Reader X
 that field passes read = λ bytes at. judged field passes at (read bytes at)
   where
@@ -56,7 +56,7 @@ that field passes read = λ bytes at. judged field passes at (read bytes at)
     judged field passes at (Short place) = Short place
     judged field passes at (Wrong place other) = Wrong place other
 
--- a length-encoded number, which this field is
+-- a length-encoded number, as the value of this field
 unfoldable pub length_number : Field → Reader ℕ
 length_number field = λ bytes at. as_reading field at (length_read bytes at)
   where
@@ -65,11 +65,11 @@ length_number field = λ bytes at. as_reading field at (length_read bytes at)
     as_reading field at lengths.Short = Short at
     as_reading field at lengths.Wrong = Wrong at field
 
--- the bytes end here
+-- no byte remains
 abbrev pub the_end : Reader (Unit {0})
 the_end = λ bytes at. if at == length bytes then Read tt at else Wrong at fields.EventSize
 
--- the answer of a call that reads this
+-- the result of a call that reads this
 abbrev pub answer_of : {X : Type 0} → Reading X → Result X CodecFault
 answer_of (Read value after) = Ok value
 answer_of (Short at) = Err (faults.Short at)

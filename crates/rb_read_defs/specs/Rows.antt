@@ -1,5 +1,5 @@
--- Rows events as they are read. After the row-event chapter of the binlog format; the extra data, which carries the transaction's
--- number, is this project's own.
+-- Rows events as they are read, as in the binlog format. The extra data, which carries the
+-- transaction's number, is this project's own.
 use Rattle.std.specs.Prelude.{ℕ, zero, suc, ◌-◌, ◌==◌, nat_le, ◌&&◌, Bool, true, false, if◌then◌else◌, List, [], ◌∷◌, length, drop, get_or, Option, Some, None}
 use Rattle.std.specs.Option.{option_map_or}
 use Rattle.byteorder.specs.Endian.{little_number}
@@ -18,7 +18,8 @@ use Rattle.rb_read_defs.specs.Reading.{Reader, Read, ◌>>=◌, give, some_bytes
 use Rattle.rb_read_defs.specs.Events.{all_clear, all_set}
 use Rattle.rb_read_defs.specs.declared.answers.StatusRow.{StatusRow}
 
--- a value of a column; a text has its length before it, in 1 byte where the maximum is at most 255 and else in 2
+-- a value of a column; a text comes after its length, which takes 1 byte if the column's maximum is
+-- at most 255 and otherwise 2
 abbrev pub value_in : Column → Reader Value
 value_in columns.Num = do
   n ← number 8
@@ -31,13 +32,13 @@ value_in (columns.Text most) = do
   text ← some_bytes size
   give (values.Text text)
 
--- a value is this number, where one is given
+-- a value is this key, if a key is given
 abbrev pub is_key : Option ℕ → Value → Bool
 is_key None value = true
 is_key (Some key) (values.Num n) = key == n
 is_key (Some key) (values.Text text) = false
 
--- the values of a row, column by column; the first one is this key, where one is given
+-- the values of a row, column by column; the first one is this key, if a key is given
 abbrev pub values_in : List Column → (key : Option ℕ) → Reader (List Value)
 values_in [] key = give []
 values_in (column ∷ columns) key = do
@@ -45,14 +46,14 @@ values_in (column ∷ columns) key = do
   values ← values_in columns None
   give (value ∷ values)
 
--- the image of a row: which values are NULL, none, and the values
+-- a row image: a bitmap of the NULL values, which is all zero, and then the values
 unfoldable pub image : List Column → (key : Option ℕ) → Reader Row
 image columns key = do
   nulls ← that fields.Null (all_clear (length columns)) (some_bytes (bitmap_size (length columns)))
   values ← values_in columns key
   give (record { values = values })
 
--- the number that a row has in a column
+-- the number that a row has in this column, or 0 if the value is not a number
 abbrev pub number_in : Row → (column : ℕ) → ℕ
 number_in row column = as_number (get_or row.values column (values.Num 0))
   where
@@ -60,7 +61,8 @@ number_in row column = as_number (get_or row.values column (values.Num 0))
     as_number (values.Num n) = n
     as_number (values.Text text) = 0
 
--- the images of a change of a kind: an insert has the row after it, a remove the row before, an update both, with one key
+-- the row images of a change of this kind: the after image of an insert, the before image of a
+-- remove, or both of an update, with the same key
 abbrev pub images : Kind → List Column → Reader (Option Row × Option Row)
 images Insert columns = do
   after ← image columns None
@@ -73,37 +75,38 @@ images Remove columns = do
   before ← image columns None
   give (Some before, None)
 
--- the key of a change's images
+-- the key in the row images of a change
 abbrev pub key_of : Option Row × Option Row → ℕ
 key_of (before, after) = option_map_or (λ row. number_in row 0) before (option_map_or (λ row. number_in row 0) after 0)
 
--- as many as there are up to the bytes' end, and at most so many
+-- as many items as there are up to the end of the bytes, and at most `most`
 abbrev pub up_to_the_end : {X : Type 0} → (most : ℕ) → Reader X → Reader (List X)
 up_to_the_end zero read = give []
 up_to_the_end (suc most) read = λ bytes at.
     if at == length bytes then Read [] at
     else (read >>= (λ item. up_to_the_end most read >>= (λ items. give (item ∷ items)))) bytes at
 
--- all that there are: each has at least a byte
+-- all items up to the end of the bytes; each has at least one byte
 abbrev pub many : {X : Type 0} → Reader X → Reader (List X)
 many read = λ bytes at. up_to_the_end (length bytes) read bytes at
 
--- the transaction's number in the extra data: `52` and 8 bytes; extra data of another form has none, and gives 0
+-- the transaction's number in the extra data, which is `52` and 8 bytes; extra data of any other
+-- form gives 0
 abbrev pub transid_in : List ℕ → ℕ
 transid_in extra = if (length extra == 9) && (get_or extra 0 0 == 82) then little_number 8 (drop 1 extra) else 0
 
--- the present bitmap of an image of so many columns: all are there
+-- the present bitmap of a row image, in which all columns are present
 abbrev pub present : (columns : ℕ) → Reader (List ℕ)
 present columns = that fields.Present (all_set columns) (some_bytes (bitmap_size columns))
 
--- the present bitmaps of a kind: an update has one for each image
+-- the present bitmaps of a rows event of this kind: one for each row image, so an update has two
 abbrev pub presents : Kind → (columns : ℕ) → Reader (List ℕ)
 presents Insert columns = present columns
 presents Update columns = present columns >>= (λ before. present columns)
 presents Remove columns = present columns
 
--- what stands before the rows of an event of a table: table id, flags, extra data with its length, number of columns, the columns
--- present; it gives the transaction's number
+-- the part of a rows event before its rows: table id, flags, the extra data after its length,
+-- number of columns, present bitmaps; the result is the transaction's number
 unfoldable pub rows_head : Kind → Mapped → Reader ℕ
 rows_head kind table = do
   id ← that fields.TableId (λ id. id == table.id) (number 6)
@@ -114,7 +117,7 @@ rows_head kind table = do
   bitmap ← presents kind (length table.columns)
   give (transid_in extra)
 
--- the changes of a rows event of a table, by a server
+-- the changes of a rows event of this table, by this server
 unfoldable pub changes : Kind → (server : ℕ) → Mapped → Reader (List Change)
 changes kind server table = do
   transid ← rows_head kind table

@@ -1,4 +1,5 @@
--- A log as it is read: its bytes cut into events by their sizes, each event judged by those before it, and the steps that they give.
+-- A log as it is read: its bytes cut into events by their lengths, each event judged by the events
+-- before it, and the steps that they give.
 use Rattle.std.specs.Prelude.{ℕ, zero, suc, ◌+◌, ◌-◌, ◌==◌, nat_le, nat_lt, ◌&&◌, ◌||◌, not, Bool, true, false, if◌then◌else◌, List, [], ◌∷◌, ◌++◌, length, map, filter, fold, take, drop, find, Option, Some, None, unwrap_or, is_some}
 use Rattle.std.specs.List.{flat_map, list_any}
 use Rattle.std.specs.Option.{option_map, option_map_or, option_and_then}
@@ -23,14 +24,15 @@ use Rattle.rb_read_defs.specs.declared.answers.StatusRow.{StatusRow}
 use Rattle.rb_read_defs.specs.declared.answers.Step.{Step}
 use Rattle.rb_read_defs.specs.declared.answers.Step.TheVariants as steps
 
--- an event cut out of the bytes: where it starts, its header as it reads, and its payload, where the event is whole
+-- an event as cut out of the bytes: its position, its header as it is read, and its payload if the
+-- event is complete
 pub record Cut : Type 0 where
   pub at : ℕ
   pub head : Reading Header
   pub payload : Option (List ℕ)
 
--- the first event of some bytes, and what is cut out of them behind so many bytes. A wrong header, or an event that is not whole, is
--- the last one
+-- the first event of some bytes, and then the events after it; an event with a wrong header, and an
+-- event that is not complete, is the last one
 abbrev pub cut_by : (at : ℕ) → (bytes : List ℕ) → Reading Header → (later : ℕ → List Cut) → List Cut
 cut_by at bytes (Read head after) later =
     if nat_le head.size (length bytes)
@@ -39,24 +41,26 @@ cut_by at bytes (Read head after) later =
 cut_by at bytes (Short place) later = []
 cut_by at bytes (Wrong place field) later = record { at = at; head = Wrong place field; payload = None } ∷ []
 
--- the events of some bytes, at most so many, of which the first stands at this position: each is as long as its size says
+-- the first `most` events of some bytes that start at position `at`; the header of each gives its
+-- length
 unfoldable pub cut_from : (most at : ℕ) → List ℕ → List Cut
 cut_from zero at bytes = []
 cut_from (suc most) at bytes =
     if nat_lt (length bytes) 19 then []
     else cut_by at bytes (header at bytes 0) (λ size. cut_from most (at + size) (drop size bytes))
 
--- all events of some bytes
+-- all events of some bytes that start at this position
 abbrev pub cuts : (at : ℕ) → List ℕ → List Cut
 cuts at bytes = cut_from (length bytes) at bytes
 
--- an event that was read: where it ends, its server, and what it says
+-- an event that was read: the position after it, its server, and its content
 pub record Known : Type 0 where
   pub end : ℕ
   pub server : ℕ
   pub says : Content
 
--- the events of the epoch that is open, the newest first: those behind the last BEGIN, where none of them ends it
+-- the events of the open epoch, the newest first: those after the last BEGIN, if no event after it
+-- ends the epoch
 unfoldable pub open_epoch : (earlier : List Known) → Option (List Known)
 open_epoch [] = None
 open_epoch (event ∷ earlier) = by_content event.says (open_epoch earlier)
@@ -70,7 +74,7 @@ open_epoch (event ∷ earlier) = by_content event.says (open_epoch earlier)
 abbrev pub is_open : (earlier : List Known) → Bool
 is_open earlier = is_some (open_epoch earlier)
 
--- the table maps of events, the newest first
+-- the table maps among these events, the newest first
 abbrev pub maps_of : List Known → List Mapped
 maps_of events = flat_map (λ event. mapped event.says) events
   where
@@ -78,11 +82,11 @@ maps_of events = flat_map (λ event. mapped event.says) events
     mapped (Maps table) = table ∷ []
     mapped other = []
 
--- the map that a table id has since the last BEGIN
+-- the table map that is in force for an id: the last one for it since BEGIN in the open epoch
 abbrev pub map_in_force : (earlier : List Known) → (id : ℕ) → Option Mapped
 map_in_force earlier id = option_and_then (λ events. find (λ table. table.id == id) (maps_of events)) (open_epoch earlier)
 
--- the apply-status rows of events, the newest event first, each with its event's server
+-- the apply-status rows of these events, the newest event first, each with the server of its event
 abbrev pub statuses_of : List Known → List (ℕ × StatusRow)
 statuses_of events = flat_map (λ event. rows event.server event.says) events
   where
@@ -90,7 +94,7 @@ statuses_of events = flat_map (λ event. rows event.server event.says) events
     rows server (Statuses all) = map (λ row. (server, row)) all
     rows server other = []
 
--- an event's own row: it has the event's server
+-- the own rows of these events: those whose server is the server of their event
 abbrev pub is_own : ℕ × StatusRow → Bool
 is_own (server, row) = row.server == server
 
@@ -100,11 +104,11 @@ own_rows rows = map (λ pair. pair.1) (filter is_own rows)
 abbrev pub other_rows : List (ℕ × StatusRow) → List StatusRow
 other_rows rows = map (λ pair. pair.1) (filter (λ pair. not (is_own pair)) rows)
 
--- rows of an epoch among which at most one is own, and at most one other
+-- at most one of these rows is an own row, and at most one is another's
 abbrev pub is_single : List (ℕ × StatusRow) → Bool
 is_single rows = nat_le (length (own_rows rows)) 1 && nat_le (length (other_rows rows)) 1
 
--- the last event before this one rotates the log
+-- the last event is a rotation
 abbrev pub is_rotated : (earlier : List Known) → Bool
 is_rotated [] = false
 is_rotated (event ∷ earlier) = rotates event.says
@@ -113,8 +117,9 @@ is_rotated (event ∷ earlier) = rotates event.says
     rotates (Rotates to) = true
     rotates other = false
 
--- an event of this type may stand here: at position 4 a format description alone; table maps, rows events and XID in an epoch,
--- format descriptions and rotations outside; of a query its text decides
+-- an event of this type is allowed here: only a format description at position 4; table maps, rows
+-- events and XID within an epoch; format descriptions and rotations outside; a query event by its
+-- text
 abbrev pub is_in_order : (at : ℕ) → (earlier : List Known) → (kind : ℕ) → Bool
 is_in_order at earlier kind =
     if kind == 2 then true
@@ -122,17 +127,18 @@ is_in_order at earlier kind =
     else (if (kind == 16) || (kind == 19) || (kind == 30) || (kind == 31) || (kind == 32) then is_open earlier
     else (if (kind == 4) || (kind == 15) then not (is_open earlier) else true)))
 
--- why the header of an event is not good behind these events, where it is not
+-- the fault of an event's header after these earlier events, if it has one
 abbrev pub header_fault : (at : ℕ) → (earlier : List Known) → Header → Option Field
 header_fault at earlier head =
     if is_rotated earlier then Some fields.AfterRotate
     else (if is_in_order at earlier head.kind then None else Some fields.Order)
 
--- the kind of a rows event's changes
+-- the kind of the changes in a rows event of this type
 abbrev pub kind_of : (type : ℕ) → Kind
 kind_of type = if type == 30 then Insert else (if type == 31 then Update else Remove)
 
--- what a query says: BEGIN stands outside an epoch, COMMIT in one, and neither at position 4
+-- the content of a query event: BEGIN is allowed outside an epoch, COMMIT within one, and neither
+-- at position 4
 abbrev pub query_in : (at : ℕ) → (earlier : List Known) → Reader Content
 query_in at earlier = that fields.Order (λ says. not (at == 4) && allowed says) (query >>= (λ text. give (said text)))
   where
@@ -144,7 +150,8 @@ query_in at earlier = that fields.Order (λ says. not (at == 4) && allowed says)
     allowed Begins = not (is_open earlier)
     allowed other = is_open earlier
 
--- what a rows event says: its table's map is the last one of its id since BEGIN; rows of the apply-status table are written only
+-- the content of a rows event: its table is the last one mapped to its id since BEGIN; the
+-- apply-status table allows only writes
 abbrev pub rows_in : (earlier : List Known) → Header → Reader Content
 rows_in earlier head = do
   id ← number 6
@@ -162,7 +169,7 @@ rows_in earlier head = do
         else (λ bytes at. Wrong 0 fields.Status))
         else at_start (changes (kind_of head.kind) head.server table) >>= (λ all. give (Changes all))
 
--- what an event says, by its type; an event of another type is skipped
+-- the content of an event, by its type; an event of any other type is skipped
 unfoldable pub content_in : (at : ℕ) → (earlier : List Known) → Header → Reader Content
 content_in at earlier head =
     if head.kind == 2 then query_in at earlier
@@ -172,24 +179,26 @@ content_in at earlier head =
     else (if head.kind == 19 then table_map >>= (λ table. give (Maps table))
     else (if is_known head.kind then rows_in earlier head else give Skipped)))))
 
--- the rows of the apply-status table that the open epoch has
+-- the apply-status rows of the open epoch so far
 abbrev pub statuses_so_far : (earlier : List Known) → List (ℕ × StatusRow)
 statuses_so_far earlier = option_map_or statuses_of (open_epoch earlier) []
 
--- with what an event says, the epoch still has at most one own row and at most one other; and where the event ends the epoch, an own
--- row is of the event's server
+-- with this event the epoch still has at most one own apply-status row and at most one other; an
+-- event that ends the epoch needs an own row of the same server
 abbrev pub has_statuses : (earlier : List Known) → (server : ℕ) → Content → Bool
 has_statuses earlier server (Statuses rows) = is_single (map (λ row. (server, row)) rows ++ statuses_so_far earlier)
 has_statuses earlier server Ends = list_any (λ row. row.server == server) (own_rows (statuses_so_far earlier))
 has_statuses earlier server other = true
 
--- an event behind these is known, is bad in a field, or is not there to its end
+-- the judgement of an event after the events before it: it is good, or bad in this field, or not
+-- complete
 pub data Judged : Type 0 where
   Good : (event : Known) → Judged
   Bad : (field : Field) → Judged
   Unfinished : Judged
 
--- the judgement of a payload: a field that does not end within it makes the event's size wrong
+-- the judgement of a complete event by its payload; if a field does not end within the payload, the
+-- event's size is wrong
 unfoldable pub judge_payload : (earlier : List Known) → (at : ℕ) → Header → List ℕ → Judged
 judge_payload earlier at head payload = by_reading (content_in at earlier head payload 0)
   where
@@ -198,7 +207,7 @@ judge_payload earlier at head payload = by_reading (content_in at earlier head p
     by_reading (Short place) = Bad fields.EventSize
     by_reading (Wrong place field) = Bad field
 
--- the judgement of an event whose header reads so: its header's fields, its place, its payload
+-- the judgement of an event by its header, then by its place among the events, then by its payload
 abbrev pub judge_head : (earlier : List Known) → (at : ℕ) → Reading Header → (payload : Option (List ℕ)) → Judged
 judge_head earlier at (Read head after) payload = unless (header_fault at earlier head) (option_map_or (judge_payload earlier at head) payload Unfinished)
   where
@@ -208,23 +217,24 @@ judge_head earlier at (Read head after) payload = unless (header_fault at earlie
 judge_head earlier at (Short place) payload = Unfinished
 judge_head earlier at (Wrong place field) payload = Bad field
 
--- the judgement of an event that was cut out
+-- the judgement of an event as cut out of the bytes
 unfoldable pub judge : (earlier : List Known) → Cut → Judged
 judge earlier cut = judge_head earlier cut.at cut.head cut.payload
 
--- how far a log can be read: the events that are known, the newest first, and the first bad one, where there is one, by its position
--- and its field
+-- the events that were read of a log, the newest first, and the position and field of the first bad
+-- event, if there is one
 pub record Seen : Type 0 where
   pub known : List Known
   pub fault : Option (ℕ × Field)
 
--- how far the log is seen, where an event stands at a position: as the event is judged, and then as what is behind it
+-- the reading from an event on, given the event's judgement: a good event is followed by the later
+-- ones; a bad or an incomplete one ends the reading
 abbrev pub seen_by : (at : ℕ) → (earlier : List Known) → Judged → (later : Known → Seen) → Seen
 seen_by at earlier (Good event) later = later event
 seen_by at earlier (Bad field) later = record { known = earlier; fault = Some (at, field) }
 seen_by at earlier Unfinished later = record { known = earlier; fault = None }
 
--- how far a log is seen behind events that are known
+-- the reading of these cut events after the events before them
 unfoldable pub seen_from : (earlier : List Known) → List Cut → Seen
 seen_from earlier [] = record { known = earlier; fault = None }
 seen_from earlier (cut ∷ cuts) = seen_by cut.at earlier (judge earlier cut) (λ event. seen_from (event ∷ earlier) cuts)
@@ -233,7 +243,8 @@ seen_from earlier (cut ∷ cuts) = seen_by cut.at earlier (judge earlier cut) (�
 abbrev pub magic : List ℕ
 magic = 254 ∷ 98 ∷ 105 ∷ 110 ∷ []
 
--- a log of which these bytes are there, from this position in its file on; at position 0 the magic number stands first
+-- the reading of a log's bytes, which start at this position of its file; at position 0 the magic
+-- number comes first
 unfoldable pub seen_of : (position : ℕ) → List ℕ → Seen
 seen_of position bytes =
     if position == 0 then
@@ -242,7 +253,7 @@ seen_of position bytes =
     else record { known = []; fault = Some (0, fields.Magic) }))
     else seen_from [] (cuts position bytes)
 
--- the changes of an epoch, in the order of its events, which stand the newest first
+-- the changes of an epoch in the order of its events, which are listed the newest first
 abbrev pub changes_read : List Known → List Change
 changes_read [] = []
 changes_read (event ∷ earlier) = changes_read earlier ++ made event.says
@@ -251,25 +262,25 @@ changes_read (event ∷ earlier) = changes_read earlier ++ made event.says
     made (Changes all) = all
     made other = []
 
--- a number among ascending ones, once
+-- a number inserted into ascending numbers, unless it is already there
 abbrev pub among : ℕ → List ℕ → List ℕ
 among n [] = n ∷ []
 among n (x ∷ xs) = if nat_lt n x then n ∷ x ∷ xs else (if n == x then x ∷ xs else x ∷ among n xs)
 
--- the ids of the tables that changes name, ascending
+-- the ids of the tables that these changes name, in ascending order, each once
 abbrev pub tables_named : List Change → List ℕ
 tables_named changes = fold (λ ids change. among change.table ids) [] changes
 
--- these tables, each by the last map of its id
+-- the tables that these changes name, each by the last map of its id
 abbrev pub tables_read : List Known → List Change → List Mapped
 tables_read events changes = flat_map (λ id. option_map_or (λ table. table ∷ []) (find (λ table. table.id == id) (maps_of events)) []) (tables_named changes)
 
--- the epoch of the first of some rows
+-- the epoch of the first row, if there is a row
 abbrev pub first_epoch_of : List StatusRow → Option Epoch
 first_epoch_of [] = None
 first_epoch_of (row ∷ rows) = Some row.epoch
 
--- the body of an epoch that an event of this server ends
+-- the body of an epoch with these events, ended by an event of this server
 abbrev pub body_read : List Known → (server : ℕ) → EpochBody
 body_read events server = record {
   server = server;
@@ -279,7 +290,7 @@ body_read events server = record {
   changes = changes_read events;
 }
 
--- the step that an event behind these gives, where it gives one
+-- the step of an event after these earlier ones, if it gives a step
 abbrev pub step_of : (earlier : List Known) → Known → List Step
 step_of earlier event = by_content event.says
   where
@@ -289,12 +300,12 @@ step_of earlier event = by_content event.says
     by_content Ends = option_map_or (λ events. steps.Epoch (body_read events event.server) event.end ∷ []) (open_epoch earlier) []
     by_content other = []
 
--- the steps of events, in their order
+-- the steps of these events, in their order
 unfoldable pub steps_of : List Known → List Step
 steps_of [] = []
 steps_of (event ∷ earlier) = steps_of earlier ++ step_of earlier event
 
--- no epoch is open behind this event
+-- no epoch is open after this event
 abbrev pub is_outside : (earlier : List Known) → Known → Bool
 is_outside earlier event = by_content event.says
   where
@@ -303,15 +314,16 @@ is_outside earlier event = by_content event.says
     by_content Ends = true
     by_content other = not (is_open earlier)
 
--- where the last event ends behind which no epoch is open, or where the bytes begin
+-- the end of the last event after which no epoch is open, or the start of the bytes if there is
+-- none
 abbrev pub settled_at : (start : ℕ) → List Known → ℕ
 settled_at start [] = start
 settled_at start (event ∷ earlier) = if is_outside earlier event then event.end else settled_at start earlier
 
--- how many bytes stand behind it, of the events that a reader has gone past
-abbrev pub rest_behind : (position : ℕ) → List ℕ → (passed : List Known) → ℕ
-rest_behind position bytes passed = position + length bytes - settled_at position passed
+-- the number of bytes after that end, given the events that a reader has decoded
+abbrev pub rest_after : (position : ℕ) → List ℕ → (passed : List Known) → ℕ
+rest_after position bytes passed = position + length bytes - settled_at position passed
 
--- and of all events that are known
+-- the number of bytes after that end, given all events that can be read
 abbrev pub rest_of : (position : ℕ) → List ℕ → ℕ
-rest_of position bytes = rest_behind position bytes (seen_of position bytes).known
+rest_of position bytes = rest_after position bytes (seen_of position bytes).known

@@ -1,37 +1,37 @@
 use rb_base::{Bytes, Changes, Epoch, EpochBody, Items, Mapped};
 
-/// The header of an event, which its first 19 bytes hold. The timestamp is not among the fields: it is always 0 where it is
-/// written, and not looked at where it is read.
+/// The header of an event, which is its first 19 bytes. The timestamp is not a field here: writers
+/// write 0, and readers ignore it.
 #[derive(Clone, Copy, Debug, PartialEq, Eq)]
 pub struct Header {
     /// The event's type code.
     pub kind: u8,
     /// The server id of the site that wrote the event.
     pub server: u32,
-    /// The size of the whole event in bytes, this header included.
+    /// The length of the whole event in bytes, including this header.
     pub size: u32,
-    /// The position in the file just after the event, in bytes from the file's start, or 0.
+    /// The position after the event, in bytes from the start of the file, or 0.
     pub end: u32,
     pub flags: u16,
 }
 
-/// What a QUERY event says.
+/// The text of a QUERY event.
 #[derive(Clone, Copy, Debug, PartialEq, Eq)]
 pub enum QueryText {
     Begin,
     Commit,
 }
 
-/// Where a ROTATE event says that the log goes on.
+/// The place at which the log continues after a ROTATE event.
 #[derive(Debug, Drop)]
 pub struct RotateTo {
-    /// In bytes from the next file's start.
+    /// The position in bytes from the start of the next file.
     pub position: u64,
-    /// The next file's name.
+    /// The name of the next file.
     pub name: Bytes,
 }
 
-/// A row of `mysql.ndb_apply_status`: a server, and an epoch of its.
+/// A row of `mysql.ndb_apply_status`: a server, and an epoch of that server.
 #[derive(Clone, Copy, Debug, PartialEq, Eq)]
 pub struct StatusRow {
     pub server: u32,
@@ -40,36 +40,36 @@ pub struct StatusRow {
 
 pub type StatusRows = Items<StatusRow>;
 
-/// What an event says, by its type.
+/// The content of an event, by its type.
 #[derive(Debug, Drop)]
 pub enum Content {
-    /// FORMAT_DESCRIPTION: the log can be read.
+    /// FORMAT_DESCRIPTION of a format that can be read.
     Formats,
     /// QUERY `BEGIN`: an epoch begins.
     Begins,
-    /// XID, or QUERY `COMMIT`: it ends.
+    /// XID, or QUERY `COMMIT`: the epoch ends.
     Ends,
-    /// ROTATE: the log goes on in another file.
+    /// ROTATE: the log continues in another file.
     Rotates(RotateTo),
-    /// TABLE_MAP: what an id means from here on.
+    /// TABLE_MAP: the table that its id means from here on.
     Maps(Mapped),
     /// WRITE_ROWS, UPDATE_ROWS or DELETE_ROWS of a data table.
     Changes(Changes),
     /// WRITE_ROWS of the apply-status table.
     Statuses(StatusRows),
-    /// An event of a type that is not known, which its flags let a reader skip.
+    /// An event of an unknown type whose flags allow a reader to skip it.
     Skipped,
 }
 
-/// What a decoder answers next.
+/// A step of a decoder.
 #[derive(Debug, Drop)]
 pub enum Step {
-    /// A whole epoch, and the position just after it.
+    /// A whole epoch, and the position after it.
     Epoch(EpochBody, u64),
     /// A rotate event: the position in the next file, and that file's name.
     Rotate(u64, Bytes),
     /// A format description event.
     Format,
-    /// More bytes are needed: the next event, or the magic number of the file, is not whole.
+    /// The next event, or the magic number of the file, is not complete; more bytes are needed.
     NeedMore,
 }

@@ -1,7 +1,9 @@
-//! The binary log as it is read: which bytes are events, what each of them says, and the steps that a whole log gives.
+//! The binary log as it is read: which bytes are events, the content of each event, and the steps
+//! that a whole log gives.
 //!
-//! Definitions in `specs/`, and laws of them in `proofs/`. A reader accepts all that the program writes, and wider forms too;
-//! what it accepts is said field by field, in the order of the bytes. The types are those that readers answer.
+//! The definitions are in `specs/`, and laws about them in `proofs/`. A reader accepts everything
+//! that this program writes, and wider forms too. The definitions state what it accepts field by
+//! field, in the order of the bytes. The types here are the results of readers.
 #![tactic(auto)]
 
 mod answers;

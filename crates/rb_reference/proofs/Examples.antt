@@ -31,7 +31,7 @@ none_lengths : map length (binlog_files A 1048576 []) ≡ 115 ∷ []
 unfolding file_start event_bytes header_bytes format_payload query_payload xid_payload rotate_payload table_map_payload text_bytes row_image rows_payload change_payload status_payload epoch_bytes length_bytes binlog_of digits
 none_lengths = refl
 
--- no bodies
+-- a log without bodies
 pub small_none : (bodies : List EpochBody) → bodies ≡ [] → All IsSmall (binlog_files A 1048576 bodies)
 small_none bodies same = subst (λ (bs : List EpochBody). All IsSmall (binlog_files A 1048576 bs)) (sym same) (small_by_lengths (binlog_files A 1048576 []) (115 ∷ []) none_lengths (omega arith, tt))
 
@@ -47,7 +47,7 @@ around_lengths : map length (binlog_files A 1048576 around_empty_epochs) ≡ 683
 unfolding file_start event_bytes header_bytes format_payload query_payload xid_payload rotate_payload table_map_payload text_bytes row_image rows_payload change_payload status_payload epoch_bytes length_bytes binlog_of digits
 around_lengths = refl
 
--- two epochs around empty ones
+-- two epochs with empty epochs between them
 pub small_around : (bodies : List EpochBody) → bodies ≡ around_empty_epochs → All IsSmall (binlog_files A 1048576 bodies)
 small_around bodies same = subst (λ (bs : List EpochBody). All IsSmall (binlog_files A 1048576 bs)) (sym same) (small_by_lengths (binlog_files A 1048576 around_empty_epochs) (683 ∷ []) around_lengths (omega arith, tt))
 
@@ -55,7 +55,7 @@ around_rotated_lengths : map length (binlog_files A 512 around_empty_epochs) ≡
 unfolding file_start event_bytes header_bytes format_payload query_payload xid_payload rotate_payload table_map_payload text_bytes row_image rows_payload change_payload status_payload epoch_bytes length_bytes binlog_of digits
 around_rotated_lengths = refl
 
--- the same under a limit that they pass
+-- the same epochs with a limit that they pass
 pub small_around_rotated : (bodies : List EpochBody) → bodies ≡ around_empty_epochs → All IsSmall (binlog_files A 512 bodies)
 small_around_rotated bodies same = subst (λ (bs : List EpochBody). All IsSmall (binlog_files A 512 bs)) (sym same) (small_by_lengths (binlog_files A 512 around_empty_epochs) (722 ∷ 115 ∷ []) around_rotated_lengths (omega arith, (omega arith, tt)))
 
@@ -63,7 +63,7 @@ around_below_lengths : map length (binlog_files A 684 around_empty_epochs) ≡ 6
 unfolding file_start event_bytes header_bytes format_payload query_payload xid_payload rotate_payload table_map_payload text_bytes row_image rows_payload change_payload status_payload epoch_bytes length_bytes binlog_of digits
 around_below_lengths = refl
 
--- the same under a limit that they do not reach
+-- the same epochs with a limit that they do not reach
 pub small_around_below : (bodies : List EpochBody) → bodies ≡ around_empty_epochs → All IsSmall (binlog_files A 684 bodies)
 small_around_below bodies same = subst (λ (bs : List EpochBody). All IsSmall (binlog_files A 684 bs)) (sym same) (small_by_lengths (binlog_files A 684 around_empty_epochs) (683 ∷ []) around_below_lengths (omega arith, tt))
 
@@ -71,6 +71,6 @@ text_ends_lengths : map length (binlog_files A 1048576 (text_ends ∷ [])) ≡ 4
 unfolding file_start event_bytes header_bytes format_payload query_payload xid_payload rotate_payload table_map_payload text_bytes row_image rows_payload change_payload status_payload epoch_bytes length_bytes binlog_of digits
 text_ends_lengths = refl
 
--- texts whose length has one byte or two
+-- texts whose length takes one byte or two
 pub small_text_ends : (bodies : List EpochBody) → bodies ≡ text_ends ∷ [] → All IsSmall (binlog_files A 1048576 bodies)
 small_text_ends bodies same = subst (λ (bs : List EpochBody). All IsSmall (binlog_files A 1048576 bs)) (sym same) (small_by_lengths (binlog_files A 1048576 (text_ends ∷ [])) (488 ∷ []) text_ends_lengths (omega arith, tt))

@@ -1,4 +1,5 @@
--- How a binlog grows body by body, and what its files leave for the steps on the way.
+-- The growth of a binlog body by body: if its files have room at the end, they have room after each
+-- body.
 use Rattle.std.proofs.Common.{◌≡◌, ◌≤◌, ◌<◌, ◌^◌, ℕ, ◌+◌, List, [], ◌∷◌, ◌++◌, length, take, drop, get_or, refl, sym, ap, subst, ◌∙◌, arith, length-append, length-take, add-one}
 use Rattle.std.specs.Prelude.{All, Bool, true, false, Some, nat_le, if◌then◌else◌, fold}
 use Rattle.std.proofs.lemmas.List.{take-append-drop}
@@ -16,13 +17,13 @@ use Rattle.rb_log_defs.specs.File.{file_name, file_start, rotated, Binlog, new_b
 use Rattle.rb_log_defs.proofs.Sizes.{rotate_length}
 use Rattle.rb_reference.specs.Standing.{IsSmall, AreSmall}
 
--- a file that is rotated is longer by the rotate event
+-- the length of a file with its rotate event
 pub rotated_length : (site : SiteId) (number : ℕ) (file : List ℕ) → length (rotated site number file) ≡ length file + (27 + length (file_name site (number + 1)))
 rotated_length site number file =
     let name : List ℕ = file_name site (number + 1) in
     omega (arith, length-append file (rotate_event (server_of site) 4 name (length file)), rotate_length (server_of site) 4 name (length file))
 
--- small files are a small binlog
+-- a binlog has room if all its files do
 pub small_files : (log : Binlog) → All IsSmall (log.closed ++ log.last ∷ []) → AreSmall log
 small_files log small =
     let parts = All-pop IsSmall (log.closed ++ log.last ∷ []) log.closed (Some log.last) refl small in
@@ -40,30 +41,30 @@ before_if true site log small =
     record { closed = parts.0; last = omega (arith, rotated_length site (length log.closed + 1) log.last) }
 before_if false site log small = small
 
--- where the binlog is small after the rotation, it was before
+-- a binlog that has room after the rotation had room before it
 pub small_before_rotation : (site : SiteId) (limit : ℕ) (log : Binlog) → AreSmall (rotated_at site limit log) → AreSmall log
 small_before_rotation site limit log small = before_if (nat_le limit (length log.last)) site log small
 
--- a binlog with an epoch more, before the rotation
+-- a binlog with one more epoch, before the rotation
 abbrev pub grown : SiteId → Binlog → EpochBody → Binlog
 grown site log body =
     let start = length log.last in
     let bytes = epoch_bytes body start in
     record log { last = log.last ++ bytes; rows = log.rows ++ index_row site (length log.closed + 1) start (start + length bytes) body ∷ [] }
 
--- where the binlog is small after the epoch, it was before
+-- a binlog that has room after the epoch had room before it
 pub small_before_epoch : (site : SiteId) (limit : ℕ) (log : Binlog) (body : EpochBody) → AreSmall (with_epoch site limit log body) → AreSmall log
 small_before_epoch site limit log body small =
     let after : AreSmall (grown site log body) = small_before_rotation site limit (grown site log body) small in
     let fits : length (log.last ++ epoch_bytes body (length log.last)) < 2 ^ 32 = after.last in
     record { closed = after.closed; last = omega (arith, length-append log.last (epoch_bytes body (length log.last))) }
 
--- where the binlog is small after these bodies, it was before
+-- a binlog that has room after these bodies had room before them
 small_before : (site : SiteId) (limit : ℕ) (log : Binlog) (bodies : List EpochBody) → AreSmall (fold (with_epoch site limit) log bodies) → AreSmall log
 small_before site limit log [] small = small
 small_before site limit log (body ∷ bodies) small = small_before_epoch site limit log body (small_before site limit (with_epoch site limit log body) bodies small)
 
--- one body more
+-- one more body
 pub one_more : (site : SiteId) (limit : ℕ) (bodies : List EpochBody) (i : ℕ) (d : EpochBody) → i < length bodies → binlog_of site limit (take (i + 1) bodies) ≡ with_epoch site limit (binlog_of site limit (take i bodies)) (get_or bodies i d)
 unfolding binlog_of
 one_more site limit bodies i d within = fold_more (with_epoch site limit) (new_binlog site) bodies i d within
@@ -73,7 +74,7 @@ as_fold : (site : SiteId) (limit : ℕ) (bodies : List EpochBody) → binlog_of 
 unfolding binlog_of
 as_fold site limit bodies = refl
 
--- all bodies are those before one, that one, and the others
+-- all bodies are those before `i`, the body `i`, and the others
 all_of : (site : SiteId) (limit : ℕ) (bodies : List EpochBody) (i : ℕ) (d : EpochBody) → i < length bodies → binlog_of site limit bodies ≡ fold (with_epoch site limit) (with_epoch site limit (binlog_of site limit (take i bodies)) (get_or bodies i d)) (drop (i + 1) bodies)
 all_of site limit bodies i d within =
     let step : Binlog → EpochBody → Binlog = with_epoch site limit in
@@ -84,7 +85,7 @@ all_of site limit bodies i d within =
     ∙ ap (λ (log : Binlog). fold step log (drop i bodies)) (sym (as_fold site limit (take i bodies)))
     ∙ ap (fold step (binlog_of site limit (take i bodies))) here
 
--- where all files are small, they are after each body
+-- if all files have room, they have room after each body
 pub small_on_the_way : (site : SiteId) (limit : ℕ) (bodies : List EpochBody) (i : ℕ) (d : EpochBody) → i < length bodies → All IsSmall (binlog_files site limit bodies) → AreSmall (with_epoch site limit (binlog_of site limit (take i bodies)) (get_or bodies i d))
 small_on_the_way site limit bodies i d within small =
     small_before site limit (with_epoch site limit (binlog_of site limit (take i bodies)) (get_or bodies i d)) (drop (i + 1) bodies)
@@ -105,28 +106,28 @@ few_closed site limit bodies =
     let same : length (binlog_of site limit bodies).closed ≡ length (fold (with_epoch site limit) (new_binlog site) bodies).closed = ap (λ (log : Binlog). length log.closed) (as_fold site limit bodies) in
     omega (arith, few_closed_from site limit (new_binlog site) bodies)
 
--- no body is laid out
+-- the binlog before the first body
 pub none_yet : (site : SiteId) (limit : ℕ) → binlog_of site limit [] ≡ new_binlog site
 unfolding binlog_of
 none_yet site limit = refl
 
--- the body that a loop is at, where `log` holds those before it: it can be written
+-- the current body of a loop over the bodies can be written
 pub written_here : (bodies : List EpochBody) (i : ℕ) (body : EpochBody) → i < length bodies → body ≡ get_or bodies i body → All CanBeWritten bodies → CanBeWritten body
 written_here bodies i body within is all = subst CanBeWritten (sym is) (All-get_or CanBeWritten bodies i body within all)
 
--- there is room for it
+-- the binlog with the current body has room
 pub small_here : (site : SiteId) (limit : ℕ) (bodies : List EpochBody) (i : ℕ) (body : EpochBody) (log : Binlog) → i < length bodies → body ≡ get_or bodies i body → log ≡ binlog_of site limit (take i bodies) → All IsSmall (binlog_files site limit bodies) → AreSmall (with_epoch site limit log body)
 small_here site limit bodies i body log within is before small =
     subst (λ (l : Binlog). AreSmall (with_epoch site limit l body)) (sym before)
     (subst (λ (b : EpochBody). AreSmall (with_epoch site limit (binlog_of site limit (take i bodies)) b)) (sym is) (small_on_the_way site limit bodies i body within small))
 
--- no more files than bodies are full
+-- at most as many files are full as bodies were written
 pub few_here : (site : SiteId) (limit : ℕ) (bodies : List EpochBody) (i : ℕ) (log : Binlog) → i < length bodies → log ≡ binlog_of site limit (take i bodies) → length log.closed ≤ i
 few_here site limit bodies i log within before =
     let same : length log.closed ≡ length (binlog_of site limit (take i bodies)).closed = ap (λ (l : Binlog). length l.closed) before in
     omega (arith, few_closed site limit (take i bodies), length-take i bodies)
 
--- it is laid out
+-- the current body is written
 pub one_here : (site : SiteId) (limit : ℕ) (bodies : List EpochBody) (i : ℕ) (body : EpochBody) (log next : Binlog) → i < length bodies → body ≡ get_or bodies i body → log ≡ binlog_of site limit (take i bodies) → next ≡ with_epoch site limit log body → next ≡ binlog_of site limit (take (i + 1) bodies)
 one_here site limit bodies i body log next within is before after =
     after

@@ -1,4 +1,4 @@
--- What a writer may count on, where the binlog is small after it.
+-- Conditions of a writer that hold if the binlog has room afterwards.
 use Rattle.std.proofs.Common.{◌≤◌, ◌<◌, ◌^◌, ℕ, ◌+◌, List, [], ◌∷◌, ◌++◌, length, arith, length-append}
 use Rattle.std.specs.Prelude.{map, codes}
 use Rattle.rb_base.specs.declared.site.SiteId.{SiteId}
@@ -52,7 +52,7 @@ maps_within body start =
     rw (joined_append start maps later)
     (omega (arith, length-append (joined_from start maps) (joined_from next later), status_within body next))
 
--- an epoch has no fewer bytes than changes
+-- an epoch has at least as many bytes as changes
 pub changes_fit : (body : EpochBody) (start : ℕ) → length body.changes ≤ length (epoch_bytes body start)
 unfolding epoch_bytes
 changes_fit body start =

@@ -1,9 +1,9 @@
--- What a binlog in memory stands for, and which binlogs have room.
+-- The binlog that a layout in memory represents, and the binlogs that have room.
 use Rattle.std.specs.Prelude.{ℕ, ◌<◌, ◌^◌, List, length, All}
 use Rattle.rb_log_defs.specs.File.{Binlog}
 use Rattle.rb_reference.specs.declared.layout.Layout.{Layout}
 
--- the binlog that is laid out
+-- the binlog that this layout represents
 abbrev pub binlog_in : Layout → Binlog
 binlog_in log = record { closed = log.closed.items; last = log.last.items; rows = log.rows }
 
@@ -11,7 +11,7 @@ binlog_in log = record { closed = log.closed.items; last = log.last.items; rows 
 abbrev pub IsSmall : List ℕ → Type 0
 IsSmall file = length file < 2 ^ 32
 
--- a binlog whose files are small
+-- a binlog in which the positions of every file fit 32 bits
 pub record AreSmall (log : Binlog) : Type 0 where
   pub closed : All IsSmall log.closed
   pub last : IsSmall log.last

@@ -5,17 +5,18 @@ use byteorder::{ByteOrder, LittleEndian};
 use rb_base::{Bytes, Epoch, IndexRow, NoMemory};
 use std::alloc::Global;
 
-/// The gate before a record of file 0.
+/// The gate before each record of file 0.
 const OPEN_GATE: u8 = 1;
 
 /// The gate at the end of file 0.
 const CLOSED_GATE: u8 = 0;
 
-/// The first event of file 1.
+/// The place of the first event of file 1.
 const FIRST_PLACE: (u32, u64) = (1, 4);
 
-/// File 0 of a log with these index rows: each row's record of 64 bytes behind an open gate, and a closed gate. It fails
-/// only for want of memory.
+/// Returns file 0 of a log with these index rows: an open gate and a record of 64 bytes for each
+/// row, and a closed gate at the end. Returns `NoMemory` if memory allocation fails, and no other
+/// error.
 #[tactic(auto, unfolding(rb_log_defs::specs::Index::index_file))]
 pub fn index_file(alloc: Global, rows: &[IndexRow]) -> Result<Bytes, NoMemory>
     ensures { IfOk result (λ file. file ≡ index_file rows.now) }
@@ -28,7 +29,7 @@ pub fn index_file(alloc: Global, rows: &[IndexRow]) -> Result<Bytes, NoMemory>
     Ok(Bytes::from_vec(file))
 }
 
-/// The record of a row behind an open gate.
+/// Returns an open gate and the record of a row.
 #[tactic(auto, unfolding(rb_log_defs::specs::Index::index_record))]
 fn gated_record(row: &IndexRow) -> [u8; 65]
     ensures { result ≡ 1 ∷ index_record row.now }
@@ -49,8 +50,9 @@ fn gated_record(row: &IndexRow) -> [u8; 65]
     bytes
 }
 
-/// Where the log goes on after an epoch, by its index rows, the oldest first: a file and a position in it, in bytes from
-/// its start. Without a row of that epoch or an earlier one, this is the first event of file 1.
+/// Returns the place at which the log continues after an epoch, as a file and a position in bytes
+/// from its start. `rows` are the log's index rows, the oldest first. If no row is of that epoch or
+/// an earlier one, the place is the first event of file 1.
 #[tactic(auto, using(crate::proofs::Rows::place_moves, crate::proofs::Rows::place_stays))]
 pub fn position_after(rows: &[IndexRow], epoch: Epoch) -> (u32, u64)
     ensures { result ≡ position_after rows.now epoch.0 }

@@ -5,17 +5,14 @@ ghost use Rattle.rb_reference.specs.Standing.{binlog_in, AreSmall};
 
 use crate::row::index_row;
 use rb_base::{Bytes, EpochBody, IndexRows, NoMemory, SiteId};
-use rb_codec::{file_name, write_format, write_rotate};
+use rb_codec::{MAGIC, file_name, write_format, write_rotate};
 use rb_etx::write_epoch;
 use std::alloc::Global;
-
-/// The first bytes of every binlog file.
-const MAGIC: [u8; 4] = [0xfe, b'b', b'i', b'n'];
 
 /// The position of a file's first event, in bytes from the file's start.
 const FIRST_EVENT: u32 = 4;
 
-/// A site's binlog: the files that are full, file 1 first, the last file, and the index rows.
+/// A site's binlog: the full files, file 1 first; the last file; and the index rows.
 #[derive(Drop)]
 struct Layout {
     closed: Vec<Bytes>,
@@ -23,8 +20,9 @@ struct Layout {
     rows: IndexRows,
 }
 
-/// The files of a site's binlog of these bodies, file 1 first, where a file that has come to `limit` bytes behind an epoch
-/// is rotated. It fails only for want of memory.
+/// Returns the files of a site's binlog of these bodies, file 1 first. A file is rotated if it has
+/// at least `limit` bytes after an epoch. Returns `NoMemory` if memory allocation fails, and no
+/// other error.
 pub fn binlog_files(
     alloc: Global,
     site: SiteId,
@@ -45,7 +43,8 @@ pub fn binlog_files(
     Ok(closed)
 }
 
-/// The index rows of that binlog, the oldest first. It fails only for want of memory.
+/// Returns the index rows of that binlog, the oldest first. Returns `NoMemory` if memory allocation
+/// fails, and no other error.
 pub fn index_rows(
     alloc: Global,
     site: SiteId,
@@ -61,7 +60,7 @@ pub fn index_rows(
     Ok(rows)
 }
 
-/// The binlog of these bodies, written in turn.
+/// Returns the binlog of these bodies, written in this order.
 fn binlog_of(
     alloc: Global,
     site: SiteId,
@@ -80,7 +79,7 @@ fn binlog_of(
     Ok(log)
 }
 
-/// A binlog without an epoch.
+/// Returns a binlog without an epoch.
 fn new_binlog(alloc: Global, site: SiteId) -> Result<Layout, NoMemory>
     ensures { IfOk result (λ log. binlog_in log ≡ new_binlog site) }
 {
@@ -91,7 +90,7 @@ fn new_binlog(alloc: Global, site: SiteId) -> Result<Layout, NoMemory>
     })
 }
 
-/// How each file of a site begins.
+/// Returns the start of each file of a site.
 #[tactic(auto, unfolding(rb_log_defs::specs::File::file_start))]
 fn file_start(alloc: Global, site: SiteId) -> Result<Vec<u8>, NoMemory>
     ensures { IfOk result (λ bytes. bytes.items ≡ file_start site) }
@@ -101,7 +100,7 @@ fn file_start(alloc: Global, site: SiteId) -> Result<Vec<u8>, NoMemory>
     Ok(bytes)
 }
 
-/// The binlog with an epoch more, at the end of the last file.
+/// Returns the binlog with one more epoch at the end of the last file.
 fn with_epoch(
     alloc: Global,
     site: SiteId,
@@ -112,7 +111,8 @@ fn with_epoch(
     requires writable { CanBeWritten body.now }
     requires small { AreSmall (with_epoch site limit (binlog_in log) body.now) }
     requires few { length log.closed.items + 2 < 2 ^ 32 }
-    ensures { IfOk result (λ next. binlog_in next ≡ with_epoch site limit (binlog_in log) body.now) }
+    ensures { IfOk result (λ next. binlog_in next
+        ≡ with_epoch site limit (binlog_in log) body.now) }
 {
     let Layout {
         closed,
@@ -126,7 +126,8 @@ fn with_epoch(
     rotated_at(alloc, site, limit, Layout { closed, last, rows })
 }
 
-/// The binlog with its last file rotated and the next one begun, where that file has come to the limit.
+/// Returns the binlog with its last file rotated and the next one begun, if that file has reached
+/// the limit.
 fn rotated_at(alloc: Global, site: SiteId, limit: u64, log: Layout) -> Result<Layout, NoMemory>
     requires small { AreSmall (rotated_at site limit (binlog_in log)) }
     requires few { length log.closed.items + 2 < 2 ^ 32 }
@@ -149,7 +150,7 @@ fn rotated_at(alloc: Global, site: SiteId, limit: u64, log: Layout) -> Result<La
     })
 }
 
-/// The file of this number with the rotate event at its end.
+/// Returns the file with this number with its rotate event at the end.
 #[tactic(auto, using(crate::proofs::Growing::rotated_length))]
 fn rotated(alloc: Global, site: SiteId, number: u32, mut file: Vec<u8>) -> Result<Vec<u8>, NoMemory>
     requires small { length (rotated site number file.items) < 2 ^ 32 }

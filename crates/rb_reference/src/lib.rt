@@ -1,8 +1,10 @@
-//! Plain programs that compute the definitions of the log, one at a time and slowly, so that worked examples can be run.
+//! Simple and slow programs that compute the definitions of the log one at a time, so that worked
+//! examples can be run.
 //!
-//! Each function's contract is that its result is what one definition gives: the files of a binlog with their rotation, its
-//! index rows, the index file, and where the log goes on after an epoch. Below stand the writers of events and of epochs.
-//! Nothing above needs this crate: the program writes its log piece by piece to a device, by functions of its own.
+//! The contract of each function is that its result is the value of one definition: the files of a
+//! binlog with their rotation, its index rows, the index file, and the place at which the log
+//! continues after an epoch. Below stand the writers of events and of epochs. Nothing above needs
+//! this crate: the program writes its log piece by piece to a device, with functions of its own.
 #![tactic(auto)]
 
 mod index;
@@ -11,6 +13,3 @@ mod row;
 
 pub use index::{index_file, position_after};
 pub use layout::{binlog_files, index_rows};
-
-#[cfg(test)]
-mod tests;

@@ -4,7 +4,8 @@ ghost use Rattle.rb_reference.specs.Counting.{is_of};
 
 use rb_base::{Change, EpochBody, IndexRow, Kind, SiteId};
 
-/// The index row of an epoch that stands in a file from the position `position` to `next`.
+/// Returns the index row of an epoch whose events span the positions `position` to `next` of a
+/// file.
 pub(crate) fn index_row(
     site: SiteId,
     file: u32,
@@ -32,7 +33,7 @@ pub(crate) fn index_row(
     }
 }
 
-/// How many of these changes are of a kind.
+/// Returns how many of these changes are of this kind.
 fn count_of(changes: &[Change], kind: Kind) -> u32
     requires { length changes.now < 2 ^ 32 }
     ensures { result ≡ count_by (λ change. is_of kind change.kind) changes.now }

@@ -1,4 +1,4 @@
--- The images of a rows event, and the values of one, column by column.
+-- The row images of a rows event, and the values of a row image, column by column.
 use Rattle.std.proofs.Common.{◌≡◌, ◌<◌, ◌≤◌, ◌+◌, ◌-◌, ◌^◌, ◌*◌, ℕ, Bool, zero, suc, List, [], ◌∷◌, ◌++◌, length, get_or, take, drop, refl, ap, sym, subst, append-nil, length-append, add-one, arith}
 use Rattle.std.proofs.lemmas.List.{take-replicate}
 use Rattle.std.proofs.lemmas.Grind.{common_steps}
@@ -23,7 +23,7 @@ fits_same_length [] (value ∷ values) fits = absurd fits
 fits_same_length (column ∷ columns) [] fits = absurd fits
 fits_same_length (column ∷ columns) (value ∷ values) fits = ap suc (fits_same_length columns values fits.1)
 
--- and each value fits its column
+-- each value of a row that fits does fit its column
 pub fits_at : (columns : List Column) (values : List Value) (i : ℕ) (column : Column) (value : Value) →
     i < length columns → FitsColumns columns values → FitsColumn (get_or columns i column) (get_or values i value)
 fits_at [] values i column value inside fits = absurd (omega arith)
@@ -31,7 +31,7 @@ fits_at (first ∷ columns) [] i column value inside fits = absurd fits
 fits_at (first ∷ columns) (head ∷ values) zero column value inside fits = fits.0
 fits_at (first ∷ columns) (head ∷ values) (suc i) column value inside fits = fits_at columns values i column value (omega arith) fits.1
 
--- the bytes of the values from one on are that value's and those of the values after it
+-- the bytes of the values from `i` on are those of the value `i` and of the values after it
 pub values_at : (columns : List Column) (values : List Value) (i : ℕ) (column : Column) (value : Value) →
     i < length columns → FitsColumns columns values →
     values_bytes (drop i columns) (drop i values) ≡ value_bytes (get_or columns i column) (get_or values i value) ++ values_bytes (drop (suc i) columns) (drop (suc i) values)
@@ -40,7 +40,7 @@ values_at (first ∷ columns) [] i column value inside fits = absurd fits
 values_at (first ∷ columns) (head ∷ values) zero column value inside fits = refl
 values_at (first ∷ columns) (head ∷ values) (suc i) column value inside fits = values_at columns values i column value (omega arith) fits.1
 
--- and so are their sizes
+-- the length of the values from `i` on is that of the value `i` and of the values after it
 pub length_at : (columns : List Column) (values : List Value) (i : ℕ) (column : Column) (value : Value) →
     i < length columns → value ≡ get_or values i value → FitsColumns columns values →
     length (values_bytes (drop i columns) (drop i values)) ≡ length (value_bytes (get_or columns i column) value) + length (values_bytes (drop (i + 1) columns) (drop (i + 1) values))
@@ -49,18 +49,18 @@ length_at columns values i column value inside is fits =
     = subst (λ (v : Value). values_bytes (drop i columns) (drop i values) ≡ value_bytes (get_or columns i column) v ++ values_bytes (drop (suc i) columns) (drop (suc i) values)) (sym is) (values_at columns values i column value inside fits) in
     rw (add-one, step) (length-append (value_bytes (get_or columns i column) value) (values_bytes (drop (suc i) columns) (drop (suc i) values)))
 
--- a bitmap of at most 64 columns is cut from 8 bytes
+-- the first bytes of 8 are a bitmap of at most 64 columns
 pub bitmap_cut : (columns n : ℕ) → columns ≤ 64 → take (bitmap_size columns) (little_bytes 8 n) ≡ little_bytes (bitmap_size columns) n
 bitmap_cut columns n few = take-bytes_low_first 0 8 (bitmap_size columns) n (omega arith)
 
--- and so is one of values that are not NULL
+-- the first bytes of 8 zero bytes are a null bitmap without NULL values
 pub zeros_cut : (columns : ℕ) → columns ≤ 64 → take (bitmap_size columns) (zeros 8) ≡ zeros (bitmap_size columns)
 zeros_cut columns few = let byte : ℕ = 0 in take-replicate (bitmap_size columns) 8 byte (omega arith)
 
 pub bitmap_length : (columns : ℕ) → length (present_bitmap columns) ≡ bitmap_size columns
 bitmap_length columns = length-bytes_low_first 0 (bitmap_size columns) (2 ^ columns - 1)
 
--- an update has two
+-- an update has two present bitmaps
 pub two_bitmaps : (columns : ℕ) → length (present_bitmap columns ++ present_bitmap columns) ≡ 2 * bitmap_size columns
 two_bitmaps columns = omega (arith, length-append (present_bitmap columns) (present_bitmap columns), bitmap_length columns)
 
@@ -82,7 +82,7 @@ pub length_one : (n : ℕ) → n ≤ 250 → length (length_bytes n) ≡ 1
 unfolding length_bytes
 length_one n few = grind (arith, common_steps)
 
--- its size
+-- the length of the payload of one change
 pub one_length : (table : Mapped) (changes : List Change) (change : Change) (last : Bool) → length table.columns ≤ 64 → length changes ≡ 1 → change ≡ get_or changes 0 change →
     length (rows_written table changes last) ≡ 20 + length (present_bitmaps change.kind (length table.columns)) + length (images_of change.kind table.columns change.before change.after)
 one_length table changes change last few one is =

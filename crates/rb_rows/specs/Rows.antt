@@ -1,4 +1,5 @@
--- One change, and one row of the apply-status table, as the readings of whole events are made of them.
+-- A single change, and a single row of the apply-status table, of which the readings of whole
+-- events consist.
 use Rattle.std.specs.Prelude.{ℕ, ◌≡◌, ◌<◌, ◌^◌, List, get_or, None}
 use Rattle.rb_base.specs.declared.schema.Column.{Column}
 use Rattle.rb_base.specs.declared.schema.Column.TheVariants.{Num, Long}
@@ -23,15 +24,15 @@ status table = do
   row ← image table.columns None
   give (record { server = number_in row 0; epoch = record { 0 = number_in row 1 } })
 
--- a number, as one of 4 bytes is
+-- a value that is a number of 4 bytes, if it is a number
 abbrev pub IsSmall : Value → Type 0
 IsSmall (values.Num n) = n < 2 ^ 32
 IsSmall (values.Text text) = Unit {0}
 
--- a value of a column of numbers of 4 bytes is such a number
+-- a value of a LONG column is a number of 4 bytes
 abbrev pub IsLong : Column → Value → Type 0
 IsLong column value = column ≡ Long → IsSmall value
 
--- and the first of a row, where the first column is one
+-- the first value of a row is a number of 4 bytes if the first column is LONG
 abbrev pub IsFirstLong : List Column → List Value → Type 0
 IsFirstLong columns items = IsLong (get_or columns 0 Num) (get_or items 0 (values.Num 0))

@@ -1,4 +1,4 @@
--- The payloads of rows events as they are written. After the row-event chapter of the binlog format.
+-- The payloads of rows events as they are written, as in the binlog format.
 use Rattle.std.specs.Prelude.{ℕ, Bool, if◌then◌else◌, List, [], ◌∷◌, length}
 use Rattle.std.specs.List.{flat_map}
 use Rattle.rb_base.specs.declared.schema.Mapped.{Mapped}
@@ -7,11 +7,12 @@ use Rattle.rb_base.specs.declared.body.EpochBody.{EpochBody}
 use Rattle.rb_log_defs.specs.Table.{status_columns}
 use Rattle.rb_log_defs.specs.Rows.{images_of, present_bitmap, present_bitmaps, rows_payload, transid_extra, status_rows}
 
--- STMT_END_F, which ends the statement
+-- the flag STMT_END_F, which ends the statement
 abbrev pub flag_of : (last : Bool) → ℕ
 flag_of last = if last then 1 else 0
 
--- the payload of changes of a table, of one kind and one transaction, with the images of each behind the other
+-- the payload of changes of a table that have the same kind and transaction; the row images of the
+-- changes follow each other
 abbrev pub rows_written : Mapped → List Change → (last : Bool) → List ℕ
 rows_written table [] last = []
 rows_written table (first ∷ later) last =

@@ -1,4 +1,4 @@
-//! The payloads of rows events, read.
+//! Reads the payloads of rows events.
 
 mod head;
 mod image;

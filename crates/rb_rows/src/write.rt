@@ -1,4 +1,5 @@
-//! The payloads of rows events, written, and their sizes, which an event's header names before its payload stands.
+//! Writes the payloads of rows events, and computes their lengths, which the header before a
+//! payload needs.
 
 mod head;
 mod image;

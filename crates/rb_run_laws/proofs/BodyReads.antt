@@ -1,4 +1,5 @@
--- The body of an epoch of site A is read back, where the changes of its journal fit the tables and have room.
+-- The body of an epoch of site A is readable if the changes of its journal fit the tables and have
+-- room.
 use Rattle.std.proofs.Common.{◌≡◌, ℕ, ◌+◌, ◌*◌, ◌<◌, ◌≤◌, ◌^◌, Bool, true, false, cond, List, [], ◌∷◌, length, map, filter, refl, sym, subst, arith, eqb-true}
 use Rattle.std.specs.Prelude.{◌==◌, not, codes, Option, Some, None, IfSome}
 use Rattle.std.specs.List.{AllByRecursion, flat_map}
@@ -38,11 +39,11 @@ use Rattle.rb_run_laws.proofs.NamedTables.{named_as_read}
 use Rattle.rb_run_laws.proofs.Room.{HasRoom, JournalHasRoom, body_room}
 use Rattle.rb_run_laws.proofs.TableRoom.{TableHasRoom, tables_room}
 
--- site A over the tables of a script
+-- site A with the tables of a script
 abbrev pub primary : (buckets : ℕ) → List Schema → Shape
 primary buckets schemas = record { site = A; buckets = buckets; tables = mapped_tables schemas }
 
--- the first number of a row that has a key first
+-- the key of a row image is the first value
 keyed : (key : ℕ) (row : Option Row) → IfSome row (λ row. key_in row.values ≡ Some key) → HasKey key row
 keyed key None is = tt
 keyed key (Some row) is = first row.values is
@@ -52,7 +53,7 @@ keyed key (Some row) is = first row.values is
     first (values.Num n ∷ all) is = let same : Some n ≡ Some key = is in cc
     first (values.Text text ∷ all) is = absurd (let no : None ≡ Some key = is in cc)
 
--- what is filtered passes
+-- each item that a filter keeps passes its test
 all_pass : {X : Type 0} → (test : X → Bool) (xs : List X) → AllByRecursion (λ x. test x ≡ true) (filter test xs)
 all_pass test [] = tt
 all_pass test (x ∷ xs) = go (test x) refl (all_pass test xs)
@@ -61,7 +62,7 @@ all_pass test (x ∷ xs) = go (test x) refl (all_pass test xs)
     go true is rest = (is, rest)
     go false is rest = rest
 
--- what a change of a body keeps to
+-- what is required of a change of a body to be readable
 record Reads (columns : List Column) (change : Change) : Type 0 where
   short : AreShort columns
   readable : IsReadableChange 1 columns change
@@ -86,7 +87,7 @@ all_read tables whole (c ∷ changes) short fits room logged named =
       all_read tables whole changes short fits.1 room.1 logged.1 named.1,
     )
 
--- an event that a reader accepts by its length
+-- an event whose length a reader accepts
 abbrev IsShortEvent : Placed → Type 0
 IsShortEvent event = length (event 0) ≤ 2147483647
 
@@ -122,7 +123,7 @@ events_short epoch tables changes room all = (
   ),
 )
 
--- the tables and the changes of a body of site A keep to that
+-- what is required of the changes of a body to be readable, with the tables of the script
 record AreRead (schemas : List Schema) (changes : List Change) : Type 0 where
   declared : AllByRecursion (FitsTables (mapped_tables schemas)) changes
   tables : AllByRecursion TableHasRoom (filter (is_named_in changes) (mapped_tables schemas))
@@ -141,7 +142,7 @@ are_read buckets schemas epoch journal legal few fits room =
       each = all_read (mapped_tables schemas) changes changes (all_more TableHasRoom (λ table. AreShort table.columns) (mapped_tables schemas) (λ table held. held.short) whole) here (body_room shape epoch journal room) (all_pass (is_logged A) (flat_map (λ bucket. part_of shape epoch bucket journal) (numbers_below buckets))) (named_here changes);
     }
 
--- the body of an epoch is read back
+-- the body of an epoch is readable
 pub body_reads : (buckets : ℕ) (schemas : List Schema) (epoch : ℕ) (journal : Journal) → AllByRecursion IsLegalTable schemas → length schemas ≤ most_tables → epoch < 2 ^ 64 → JournalFits (primary buckets schemas) journal →
     JournalHasRoom (primary buckets schemas) journal → IsReadable (body_of (primary buckets schemas) epoch journal)
 unfolding body_of
@@ -163,15 +164,15 @@ body_reads buckets schemas epoch journal legal few below fits room =
       sizes = All-from_recursion IsShortEvent (epoch_events (body_with (primary buckets schemas) epoch None changes)) (events_short epoch tables changes are.tables are.each);
     }
 
--- how many bytes an epoch has at most: so many for its tables and all else that it has once, and so many for each change
+-- a bound on the length of an epoch in bytes: a constant, and a constant for each change
 abbrev pub most_bytes_of : EpochBody → ℕ
 most_bytes_of body = 3962 + 2047 * length body.changes
 
--- an epoch has no more, wherever it starts
+-- the length of an epoch is within that bound at every position
 abbrev pub IsShortBody : EpochBody → Type 0
 IsShortBody body = (start : ℕ) → length (epoch_bytes body start) ≤ most_bytes_of body
 
--- the body of an epoch is short
+-- the body of an epoch is within that bound
 pub body_short : (buckets : ℕ) (schemas : List Schema) (epoch : ℕ) (journal : Journal) → AllByRecursion IsLegalTable schemas → length schemas ≤ most_tables → JournalFits (primary buckets schemas) journal → JournalHasRoom (primary buckets schemas) journal →
     IsShortBody (body_of (primary buckets schemas) epoch journal)
 unfolding body_of

@@ -1,4 +1,4 @@
--- The files of a binlog are read back, one after the other.
+-- The files of a binlog are read one after another.
 use Rattle.std.proofs.Common.{◌≡◌, ℕ, ◌+◌, ◌-◌, ◌<◌, ◌≤◌, ◌^◌, Bool, true, false, cond, List, [], ◌∷◌, ◌++◌, length, fold, refl, sym, ap, subst, ◌∙◌, arith, append_assoc, append-nil, length-append}
 use Rattle.std.specs.Prelude.{nat_le, sum_by, if◌then◌else◌, ◌==◌, None, All}
 use Rattle.std.specs.List.{AllByRecursion}
@@ -30,12 +30,12 @@ use Rattle.rb_run_laws.proofs.RunKeeps.{written_read}
 use Rattle.rb_run_laws.proofs.RunBytes.{log_short}
 use Rattle.rb_run_laws.specs.Files.{epoch_steps, IsReadAs, AreReadAs}
 
--- where these epochs end, the first of which starts at a position
+-- the end of these epochs, the first of which starts at this position
 abbrev place_after : (start : ℕ) → List EpochBody → ℕ
 place_after start [] = start
 place_after start (body ∷ bodies) = place_after (start + length (epoch_bytes body start)) bodies
 
--- one epoch more
+-- the steps with one more epoch
 steps_after : (start : ℕ) (done : List EpochBody) (body : EpochBody) → epoch_steps start (done ++ body ∷ []) ≡ epoch_steps start done ++ steps.Epoch body (place_after start done + length (epoch_bytes body (place_after start done))) ∷ []
 steps_after start [] body = refl
 steps_after start (first ∷ done) body = ap (λ (all : List Step). steps.Epoch first (start + length (epoch_bytes first start)) ∷ all) (steps_after (start + length (epoch_bytes first start)) done body)
@@ -44,7 +44,7 @@ place_more : (start : ℕ) (done : List EpochBody) (body : EpochBody) → place_
 place_more start [] body = refl
 place_more start (first ∷ done) body = place_more (start + length (epoch_bytes first start)) done body
 
--- a file that these epochs were written to, as a reader sees it, whatever is written behind them
+-- a file to which these epochs were written, as a reader reads it, whatever bytes follow
 record IsFile (site : SiteId) (done : List EpochBody) (file : List ℕ) : Type 0 where
   known : List Known
   told : steps_of known ≡ steps.Format ∷ epoch_steps (length (file_start site)) done
@@ -53,7 +53,7 @@ record IsFile (site : SiteId) (done : List EpochBody) (file : List ℕ) : Type 0
   goes_on : is_rotated known ≡ false
   settled : settled_at 0 known ≡ length file
   seen : (more : List ℕ) → seen_of 0 (file ++ more) ≡ seen_from known (cuts (length file) more)
-  behind : 4 < length file
+  following : 4 < length file
 
 start_length : (site : SiteId) → length (file_start site) ≡ 115
 unfolding file_start
@@ -63,7 +63,7 @@ small_server : (site : SiteId) → server_of site < 2 ^ 32
 small_server A = omega arith
 small_server B = omega arith
 
--- a file at its start
+-- a file without an epoch
 format_known : SiteId → Known
 format_known site = record { end = 115; server = server_of site; says = Formats }
 
@@ -90,15 +90,15 @@ new_file site =
       goes_on = refl;
       settled = sym n;
       seen = λ more. start_seen site more ∙ ap (λ (at : ℕ). seen_from (format_known site ∷ []) (cuts at more)) (sym n);
-      behind = omega arith;
+      following = omega arith;
     }
 
--- and with an epoch more
+-- a file with one more epoch
 file_more : (site : SiteId) (done : List EpochBody) (file : List ℕ) (body : EpochBody) → IsFile site done file → IsReadable body → length (file ++ epoch_bytes body (length file)) < 2 ^ 32 → IsFile site (done ++ body ∷ []) (file ++ epoch_bytes body (length file))
 file_more site done file body is readable small =
     let bytes = epoch_bytes body (length file) in
     let long = length-append file bytes in
-    let behind = is.behind in
+    let following = is.following in
     let back = epoch_back body (length file) is.known readable (omega arith) is.closed is.goes_on (omega arith) in
     let start = length (file_start site) in
     let epoch : steps.Epoch body (place_after start done + length (epoch_bytes body (place_after start done))) ≡ steps.Epoch body (length file + length bytes) =
@@ -113,10 +113,10 @@ file_more site done file body is readable small =
       settled = back.settled 0 ∙ sym long;
       seen = λ more.
           ap (seen_of 0) (append_assoc file bytes more) ∙ is.seen (bytes ++ more) ∙ back.seen more ∙ ap (λ (at : ℕ). seen_from (back.events ++ is.known) (cuts at more)) (sym long);
-      behind = omega arith;
+      following = omega arith;
     }
 
--- the file that is written to is read to its end
+-- the last file is read to its end
 file_read : (site : SiteId) (done : List EpochBody) (file : List ℕ) → IsFile site done file → IsReadAs site done [] file
 unfolding cut_from seen_from
 file_read site done file is =
@@ -128,9 +128,9 @@ file_read site done file is =
       rest = ap (λ (s : Seen). 0 + length file - settled_at 0 s.known) whole ∙ (omega arith);
     }
 
--- and so is one that is full
+-- a full file is read to its end
 not_four : (at : ℕ) → 4 < at → (at == 4) ≡ false
-not_four at behind = grind (arith, nat_tests)
+not_four at following = grind (arith, nat_tests)
 
 full_read : (site : SiteId) (number : ℕ) (done : List EpochBody) (file : List ℕ) → IsFile site done file → number + 1 < 10000000000 → length (rotated site number file) < 2 ^ 32 → IsReadAs site done (steps.Rotate 4 (file_name site (number + 1)) ∷ []) (rotated site number file)
 unfolding cut_from seen_from content_in steps_of
@@ -148,14 +148,14 @@ full_read site number done file is few small =
     is.seen event
     ∙ ap (λ (bytes : List ℕ). seen_from is.known (cuts (length file) bytes)) (sym (append-nil event))
     ∙ one_seen 4 (server_of site) payload (length file) is.known (Rotates (record { position = 4; name = name })) (8 + length name) (length (event ++ [])) 0 [] refl (small_server site) (omega arith) (omega arith) is.goes_on
-    (rw (not_four (length file) is.behind, is.closed) refl) (rw (rotate_read 4 name (omega arith)) refl) refl (omega arith) (omega arith) in
+    (rw (not_four (length file) is.following, is.closed) refl) (rw (rotate_read 4 name (omega arith)) refl) refl (omega arith) (omega arith) in
     record {
       steps = ap (λ (s : Seen). steps_of s.known) whole ∙ ap (λ (all : List Step). all ++ steps.Rotate 4 name ∷ []) is.told;
       sound = ap (λ (s : Seen). s.fault) whole;
       rest = ap (λ (s : Seen). 0 + length (file ++ event) - settled_at 0 s.known) whole ∙ rw is.closed (omega arith);
     }
 
--- the files from the one on that is written to
+-- the files from the current one on, when these bodies are written to it
 files_from : SiteId → (limit number : ℕ) → (file : List ℕ) → List EpochBody → List (List ℕ)
 files_from site limit number file [] = file ∷ []
 files_from site limit number file (body ∷ bodies) =
@@ -196,7 +196,7 @@ files_are site limit log (body ∷ bodies) = go (nat_le limit (length file)) ref
         ∙ ap (λ (files : List (List ℕ)). files ++ files_from site limit (length files + 1) next.last bodies) closed
         ∙ ap (λ (start : List ℕ). log.closed ++ files_from site limit (length log.closed + 1) start bodies) last
 
--- the first of them goes on from the file that is written to
+-- the first of these files begins with the bytes of the current file
 abbrev IsSmall : List ℕ → Type 0
 IsSmall file = length file < 2 ^ 32
 
@@ -219,7 +219,7 @@ small_now site limit number file (body ∷ bodies) small = go (nat_le limit (len
         let two = length-append file (epoch_bytes body (length file)) in
         omega arith
 
--- there is one
+-- there is at least one file
 record AreSome (files : List (List ℕ)) : Type 0 where
   first : List ℕ
   later : List (List ℕ)
@@ -237,11 +237,11 @@ some_from site limit number file (body ∷ bodies) = go (nat_le limit (length (f
     go true rest = record { first = rotated site number next; later = files_from site limit (number + 1) (file_start site) bodies; are = refl }
     go false rest = rest
 
--- a full file before others
-read_first : (site : SiteId) (number : ℕ) (own behind : List EpochBody) (file : List ℕ) (files : List (List ℕ)) → AreSome files → IsReadAs site own (steps.Rotate 4 (file_name site (number + 1)) ∷ []) file → AreReadAs site (number + 1) behind files → AreReadAs site number (own ++ behind) (file ∷ files)
-read_first site number own behind file files some first later =
-    subst (λ (files : List (List ℕ)). AreReadAs site number (own ++ behind) (file ∷ files)) (sym some.are)
-    (own, behind, refl, first, subst (AreReadAs site (number + 1) behind) some.are later)
+-- a full file before other files
+read_first : (site : SiteId) (number : ℕ) (own following : List EpochBody) (file : List ℕ) (files : List (List ℕ)) → AreSome files → IsReadAs site own (steps.Rotate 4 (file_name site (number + 1)) ∷ []) file → AreReadAs site (number + 1) following files → AreReadAs site number (own ++ following) (file ∷ files)
+read_first site number own following file files some first later =
+    subst (λ (files : List (List ℕ)). AreReadAs site number (own ++ following) (file ∷ files)) (sym some.are)
+    (own, following, refl, first, subst (AreReadAs site (number + 1) following) some.are later)
 
 files_read : (site : SiteId) (limit number : ℕ) (done : List EpochBody) (file : List ℕ) (bodies : List EpochBody) → IsFile site done file → number + length bodies < 10000000000 → AllByRecursion IsReadable bodies → AllByRecursion IsSmall (files_from site limit number file bodies) → AreReadAs site number (done ++ bodies) (files_from site limit number file bodies)
 unfolding files_from
@@ -268,7 +268,7 @@ files_read site limit number done file (body ∷ bodies) is few readable small =
         (full_read site number (done ++ body ∷ []) next more (omega arith) whole) (later small.1)
     go false small here later = here (file_more site done file body is readable.0 (small_now site limit number next bodies small)) (omega arith) readable.1 small
 
--- a log of readable epochs is read back
+-- a log of readable epochs is read as it was written
 pub log_read : (site : SiteId) (limit : ℕ) (bodies : List EpochBody) → All IsReadable bodies → length bodies < 2 ^ 32 → All (λ file. length file < 2 ^ 32) (binlog_files site limit bodies) → AreReadAs site 1 bodies (binlog_files site limit bodies)
 unfolding binlog_of
 log_read site limit bodies readable few small =
@@ -312,7 +312,7 @@ files_short site limit number file (body ∷ bodies) short start few bytes =
         let s = sum in
         here (omega arith) (omega arith) (omega arith)
 
--- the log of a legal script's run is read back
+-- the log of a legal script's run is read as it was written
 pub run_read : (script : Script) → IsLegal script → AreReadAs A 1 (log_of script) (files_of script)
 unfolding binlog_of
 run_read script legal =

@@ -1,4 +1,4 @@
--- The operations of a legal script fit its tables in the log.
+-- The operations of a legal script fit its tables as the log maps them.
 use Rattle.std.proofs.Common.{◌≡◌, ℕ, zero, suc, ◌+◌, ◌<◌, ◌≤◌, Bool, true, List, [], ◌∷◌, length, map, sym, ap, subst, ◌∙◌, arith}
 use Rattle.std.specs.Prelude.{◌==◌, ◌-◌, Option, Some, None, if◌then◌else◌}
 use Rattle.std.specs.List.{AllByRecursion, enumerate_from, find, slice_get}
@@ -26,7 +26,7 @@ use Rattle.rb_play_defs.specs.Fitting.{IsRowOf, PutsRow, OperationFits}
 pub count_mapped : (tables : List Schema) → length (mapped_tables tables) ≡ length tables
 count_mapped tables = length-map (enumerate_from 1 tables) mapped_table ∙ length-enumerate_from 1 tables
 
--- the columns of a table in the log: the key, and those that the script declares
+-- the columns of a table as the log maps it: the key, and those that the script declares
 columns_from : (tables : List Schema) (n k : ℕ) → k < length tables → columns_of (map mapped_table (enumerate_from n tables)) (n + k) ≡ columns.Num ∷ option_map_or (λ table. table.columns) (slice_get tables k) []
 columns_from [] n k within = absurd (omega arith)
 columns_from (table ∷ tables) n zero within =
@@ -49,7 +49,7 @@ column_fits columns.Long value suits = absurd cc
 column_fits (columns.Text most) (values.Num number) suits = absurd cc
 column_fits (columns.Text most) (values.Text text) suits = leb-true (length text) most suits
 
--- values that suit columns fit them
+-- values that suit columns also fit them
 suits_fits : (all : List Column) (others : List Value) → suits_columns all others ≡ true → FitsColumns all others
 suits_fits [] [] suits = tt
 suits_fits [] (value ∷ others) suits = absurd cc

@@ -1,5 +1,5 @@
--- The tables that changes name, among those that a script declares, are the ones that a reader puts together: each id once,
--- ascending.
+-- The tables that changes name, among those that a script declares, are the ones that a reader
+-- collects: each id once, in ascending order.
 use Rattle.std.proofs.Common.{◌≡◌, ℕ, ◌+◌, ◌<◌, ◌≤◌, Bool, true, false, cond, List, [], ◌∷◌, length, map, filter, refl, sym, ap, subst, ◌∙◌, inl, inr, arith, eq-eqb, eqb-true, ne_eqb}
 use Rattle.std.specs.Prelude.{◌⊎◌, ◌==◌, ◌||◌, nat_lt, fold, if◌then◌else◌}
 use Rattle.std.specs.List.{AllByRecursion, enumerate_from}
@@ -17,7 +17,7 @@ or_swap true true c = refl
 or_swap true false c = refl
 or_swap false b c = refl
 
--- what an id more makes of whether another one is there
+-- an id is in the list with one more id if it is that id or was in the list
 has_among : (n id : ℕ) (ids : List ℕ) → has n (among id ids) ≡ ((id == n) || has n ids)
 has_among n id [] = refl
 has_among n id (x ∷ xs) = go (nat_lt id x) (id == x) refl (has_among n id xs)
@@ -76,7 +76,7 @@ order_of x y = first (cases_lt x y)
     first (inl less) = inl less
     first (inr below) = second below (cases_lt y x)
 
--- ascending ids are told by which are among them
+-- two ascending lists with the same ids are equal
 same_ids : (xs ys : List ℕ) → Ascend xs → Ascend ys → ((n : ℕ) → has n xs ≡ has n ys) → xs ≡ ys
 same_ids [] [] up over same = refl
 same_ids [] (y ∷ ys) up over same = absurd (let no : false ≡ true = same y ∙ has_first y ys in cc)
@@ -100,7 +100,7 @@ same_ids (x ∷ xs) (y ∷ ys) up over same = go (order_of x y) (same_ids xs ys 
     go (inr (inl more)) rest = absurd (let no : false ≡ true = sym (not_above y (x ∷ xs) (more, above_all y x xs more up.0)) ∙ same y ∙ has_first y ys in cc)
     go (inr (inr is)) rest = ap (λ (z : ℕ). z ∷ xs) is ∙ ap (λ (zs : List ℕ). y ∷ zs) (rest (λ n. other n (x == n) refl is))
 
--- the tables that pass a test ascend
+-- the tables that pass a test are in ascending order
 ids_from : (test : Mapped → Bool) (n low : ℕ) (schemas : List Schema) → low < n → AllByRecursion (λ other. low < other) (ids_of (filter test (map mapped_table (enumerate_from n schemas))))
 ids_from test n low [] above = tt
 ids_from test n low (schema ∷ schemas) above = go (test (mapped_table (n, schema))) (ids_from test (n + 1) low schemas (omega arith))
@@ -123,7 +123,7 @@ ids_ascend test n (schema ∷ schemas) = go (test (mapped_table (n, schema))) (i
     go true rest = (ids_from test (n + 1) n schemas (omega arith), rest)
     go false rest = rest
 
--- a table that is named stays among those that are named
+-- a named table is among the named tables
 has_kept : (changes : List Change) (n : ℕ) (tables : List Mapped) → names changes n ≡ true → has n (ids_of (filter (is_named_in changes) tables)) ≡ has n (ids_of tables)
 has_kept changes n [] named = refl
 has_kept changes n (table ∷ tables) named = go (is_named_in changes table) (table.id == n) refl refl (has_kept changes n tables named)
@@ -136,7 +136,7 @@ has_kept changes n (table ∷ tables) named = go (is_named_in changes table) (ta
     go false true k q rest = absurd (let no : true ≡ false = sym named ∙ ap (names changes) (sym (eqb-true table.id n q)) ∙ k in cc)
     go false false k q rest = rest ∙ sym (ap (λ (b : Bool). b || has n (ids_of tables)) q)
 
--- one that is not named does not
+-- a table that is not named is not among them
 not_kept : (changes : List Change) (n : ℕ) (tables : List Mapped) → names changes n ≡ false → has n (ids_of (filter (is_named_in changes) tables)) ≡ false
 not_kept changes n [] none = refl
 not_kept changes n (table ∷ tables) none = go (is_named_in changes table) (table.id == n) refl refl (not_kept changes n tables none)
@@ -149,7 +149,7 @@ not_kept changes n (table ∷ tables) none = go (is_named_in changes table) (tab
     go true false k q rest = ap (λ (b : Bool). b || has n (ids_of later)) q ∙ rest
     go false is k q rest = rest
 
--- the ids of declared tables
+-- the ids of the declared tables
 has_declared : (n id : ℕ) (schemas : List Schema) → n ≤ id → id < n + length schemas → has id (ids_of (map mapped_table (enumerate_from n schemas))) ≡ true
 has_declared n id [] low high = absurd (omega arith)
 has_declared n id (schema ∷ schemas) low high = go (n == id) refl (has_declared (n + 1) id schemas)
@@ -165,7 +165,7 @@ has_declared n id (schema ∷ schemas) low high = go (n == id) refl (has_declare
         ap (λ (b : Bool). b || has id (ids_of (map mapped_table (enumerate_from (n + 1) schemas)))) q
         ∙ rest (above q (order_of n id)) (omega arith)
 
--- a named table is declared where all changes are of declared tables
+-- if all changes are of declared tables, each named table is declared
 names_declared : (count n : ℕ) (changes : List Change) → AllByRecursion (λ change. (1 ≤ change.table) × (change.table ≤ count)) changes → names changes n ≡ true → (1 ≤ n) × (n ≤ count)
 names_declared count n [] all named = absurd (let no : false ≡ true = named in cc)
 names_declared count n (change ∷ changes) all named = go (change.table == n) refl named (names_declared count n changes all.1)

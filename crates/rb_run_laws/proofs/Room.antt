@@ -23,13 +23,13 @@ use Rattle.rb_text_defs.specs.Legal.{IsLegalValue, HasLegalRow, IsLegalOperation
 use Rattle.rb_play_defs.proofs.Fits.{all_filtered}
 use Rattle.rb_read_defs.specs.Readable.{IsValue, HasValues}
 
--- a change whose numbers do
+-- a change whose numbers have 64 bits
 pub record HasRoom (change : Change) : Type 0 where
   pub before : HasValues change.before
   pub after : HasValues change.after
   pub transid : change.transid < 2 ^ 64
 
--- all changes of a journal do
+-- all changes of a journal have room
 abbrev pub JournalHasRoom : Shape → Journal → Type 0
 JournalHasRoom shape journal = AllByRecursion (λ entry. AllByRecursion HasRoom (changes_of shape.site entry)) journal
 
@@ -50,7 +50,7 @@ row_room shape table key (entry ∷ journal) room =
     left_room None (row_at shape.site table key journal) (of_key table key (changes_of shape.site entry)) (row_room shape table key journal room.1)
     (all_filtered HasRoom (names_key table key) (changes_of shape.site entry) room.0)
 
--- a value that a line says
+-- a value that a line can write
 value_room : (value : Value) → IsLegalValue value → IsValue value
 value_room (values.Num number) legal = legal
 value_room (values.Text text) legal = tt
@@ -68,7 +68,7 @@ put_room Put columns key None legal = absurd legal
 put_room Put columns key (Some row) legal = row_said row legal.3
 put_room Del columns key row legal = subst HasValues (sym legal) tt
 
--- the images of a change that an operation makes over a row
+-- the row images of the change that an operation makes
 before_room : (kind : Kind) (row : Option Row) → HasValues row → HasValues (before_image kind row)
 before_room Insert row room = tt
 before_room Update row room = room
@@ -92,7 +92,7 @@ all_made schemas author transid rows [] few room legal = tt
 all_made schemas author transid rows (operation ∷ operations) few room legal =
     (made_room schemas author transid (rows operation.table operation.key) operation few (room operation.table operation.key) legal.0, all_made schemas author transid rows operations few room legal.1)
 
--- the changes of a transaction over the rows of a journal
+-- the changes of a transaction, given the rows of a journal
 pub changes_room : (shape : Shape) (schemas : List Schema) (author transid : ℕ) (operations : List ClientOp) (journal : Journal) → JournalHasRoom shape journal → transid < 2 ^ 64 → AllByRecursion (IsLegalOperation schemas) operations →
     AllByRecursion HasRoom (changes_made (λ table key. row_at shape.site table key journal) author transid operations)
 unfolding changes_made
@@ -109,7 +109,7 @@ epoch_room shape epoch (entry ∷ journal) room =
     go true = room.0
     go false = tt
 
--- and of its body
+-- the changes of an epoch's body
 pub body_room : (shape : Shape) (epoch : ℕ) (journal : Journal) → JournalHasRoom shape journal → AllByRecursion HasRoom (body_changes shape epoch journal)
 body_room shape epoch journal room =
     all_filtered HasRoom (is_logged shape.site) (flat_map (λ bucket. part_of shape epoch bucket journal) (numbers_below shape.buckets))

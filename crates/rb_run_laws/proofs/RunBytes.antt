@@ -1,4 +1,4 @@
--- How many bytes the epochs of a run and the files of its log have at most.
+-- Bounds on the lengths of a run's epochs and of its log's files.
 use Rattle.std.proofs.Common.{◌≡◌, ℕ, zero, suc, ◌+◌, ◌*◌, ◌<◌, ◌≤◌, ◌^◌, Bool, true, false, cond, List, [], ◌∷◌, length, map, filter, take, arith}
 use Rattle.std.specs.Prelude.{sum_by}
 use Rattle.std.specs.List.{AllByRecursion}
@@ -22,7 +22,7 @@ use Rattle.rb_play_defs.proofs.Fits.{all_filtered}
 use Rattle.rb_run_laws.proofs.BodyReads.{primary, most_bytes_of, IsShortBody, body_short}
 use Rattle.rb_run_laws.proofs.RunKeeps.{Keeps, all_taken, keeps_play}
 
--- the epochs that are completed among those that are closed
+-- the completed epochs are among the closed ones
 filtered_bytes : (body : ℕ → EpochBody) (test : ℕ → Bool) (epochs : List ℕ) → sum_by most_bytes_of (map body (filter test epochs)) ≤ sum_by (λ epoch. most_bytes_of (body epoch)) epochs
 filtered_bytes body test [] = omega arith
 filtered_bytes body test (epoch ∷ epochs) = go (test epoch) (filtered_bytes body test epochs)
@@ -46,7 +46,7 @@ all_bytes buckets schemas journal (epoch ∷ epochs) =
       all_bytes buckets schemas journal epochs,
     )
 
--- what a run wrote
+-- the length of the epochs that a run logged
 written_bytes : (buckets : ℕ) (schemas : List Schema) (run : Progress) → Keeps (primary buckets schemas) 0 0 run → (n : ℕ) → sum_by most_bytes_of (take n (completed_bodies (primary buckets schemas) run.journal)) ≤ 3962 * most_lines + 2047 * most_changes
 unfolding completed_bodies completed_epochs
 written_bytes buckets schemas run keeps n =
@@ -87,7 +87,7 @@ completed_short buckets schemas run legal few keeps =
     (all_more (λ epoch. epoch < 2 ^ 64) (λ epoch. IsShortBody (body_of shape epoch run.journal)) logged (λ epoch below. body_short buckets schemas epoch run.journal legal few keeps.fits keeps.room)
     (all_filtered (λ epoch. epoch < 2 ^ 64) (λ epoch. has_something_to_log (body_of shape epoch run.journal)) (closed_epochs run.journal) keeps.epochs))
 
--- what a legal script's run writes
+-- the log of a legal script's run is short
 pub record IsShortLog (script : Script) : Type 0 where
   pub few : length (log_of script) ≤ most_lines
   pub short : AllByRecursion IsShortBody (log_of script)

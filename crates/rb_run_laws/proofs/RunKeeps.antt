@@ -1,5 +1,5 @@
--- What holds of a journal at each point of a run of legal events, and so of the bodies that are written: their changes fit the
--- tables, and their numbers have 64 bits.
+-- Facts about the journal at each point of a run of legal events, and therefore about the logged
+-- bodies: their changes fit the tables, and their numbers have 64 bits.
 use Rattle.std.proofs.Common.{◌≡◌, ℕ, zero, suc, ◌+◌, ◌*◌, ◌/◌, ◌<◌, ◌≤◌, ◌^◌, length-append, Bool, true, false, List, [], ◌∷◌, length, filter, fold, take, refl, sym, ap, subst, ◌∙◌, arith}
 use Rattle.std.specs.Prelude.{sum_by, Option, Some, None, All, if◌then◌else◌}
 use Rattle.std.specs.List.{AllByRecursion, slice_get}
@@ -30,7 +30,7 @@ use Rattle.rb_text_defs.specs.declared.script.Script.{Script}
 use Rattle.rb_text_defs.specs.Script.{most_changes, most_lines, most_tables}
 use Rattle.rb_text_defs.specs.Legal.{IsLegal, IsLegalEvent, changes_in_event, IsLegalOperation, IsLegalTable}
 use Rattle.rb_play_defs.specs.Fitting.{JournalFits}
-use Rattle.rb_play_defs.specs.Step.{Progress, tx_changes, Stepped, unchanged, refused, rows_of, committed, commit_outcome, tx_step, closed, close_step, fed_by, delivered_message, answer_outcome, deliver_step, undelivered, after_delivery, all_delivered, delivery_of_all, deliver_all_step, injection_of, inject_step, needed_of, takeover_step, loss_step, fail_step, restart_step, resend_step, injector_step, unless_lost, site_step}
+use Rattle.rb_play_defs.specs.Step.{Progress, tx_changes, StepResult, unchanged, refused, rows_of, committed, commit_outcome, tx_step, closed, close_step, fed_by, delivered_message, answer_outcome, deliver_step, undelivered, after_delivery, all_delivered, delivery_of_all, deliver_all_step, injection_of, inject_step, needed_of, takeover_step, loss_step, fail_step, restart_step, resend_step, injector_step, unless_lost, site_step}
 use Rattle.rb_play_defs.specs.Play.{shape_of, log_step, event_step, Played, played_on, not_played, play_of, play, log_of}
 use Rattle.rb_play_defs.proofs.Fits.{all_filtered, changes_fit}
 use Rattle.rb_read_defs.specs.Readable.{IsReadable}
@@ -38,8 +38,8 @@ use Rattle.rb_run_laws.proofs.LegalFits.{operations_fit}
 use Rattle.rb_run_laws.proofs.Room.{JournalHasRoom, changes_room}
 use Rattle.rb_run_laws.proofs.BodyReads.{primary, body_reads}
 
--- of a run with so many events to come, and so many changes among them: every number of the journal has 64 bits, and so will those of
--- what is to come; and there are few epochs and changes
+-- a run with `left` events and `to_come` changes still to come: every number of the journal has 64
+-- bits and will have 64 bits at the end, and there are few epochs and changes
 pub record Keeps (shape : Shape) (left to_come : ℕ) (run : Progress) : Type 0 where
   pub fits : JournalFits shape run.journal
   pub room : JournalHasRoom shape run.journal
@@ -50,7 +50,7 @@ pub record Keeps (shape : Shape) (left to_come : ℕ) (run : Progress) : Type 0 
   pub few_epochs : length (closed_epochs run.journal) + left ≤ most_lines
   pub few_changes : changes_made shape.site run.journal + to_come ≤ most_changes
 
--- a run whose journal, open epoch and last number stay
+-- a run whose journal, open epoch and number of transactions are unchanged
 record Alike (run next : Progress) : Type 0 where
   journal : next.journal ≡ run.journal
   opened : next.opened ≡ run.opened
@@ -91,7 +91,7 @@ alike_delivery : (shape : Shape) (run : Progress) → Alike run (delivery_of_all
 unfolding delivery_of_all
 alike_delivery shape run = alike_all shape (undelivered run) run
 
--- the injector's turn
+-- an `inject` event
 alike_injection : (shape : Shape) (run : Progress) → Alike run (injection_of shape run).run
 unfolding injection_of
 alike_injection shape run = record { journal = refl; opened = refl; drawn = refl }
@@ -102,7 +102,7 @@ alike_log shape run =
     let delivered = (delivery_of_all shape run).run in
     alike_then run delivered (injection_of shape delivered).run (alike_delivery shape run) (alike_injection shape delivered)
 
--- nodes
+-- the failure or the restart of a node
 alike_fail : (shape : Shape) (node : ℕ) (run : Progress) → Alike run (fail_step shape node run).run
 unfolding fail_step
 alike_fail shape node run = go (node_at run.nodes node).up (successor_of run.nodes (needed_of shape run) node)
@@ -124,27 +124,27 @@ alike_resend : (shape : Shape) (run : Progress) → Alike run (resend_step shape
 unfolding resend_step
 alike_resend shape run = record { journal = refl; opened = refl; drawn = refl }
 
--- an injector that stops
+-- the restart of the injector
 alike_injector : (shape : Shape) (run : Progress) → Alike run (injector_step shape run).run
 unfolding injector_step
 alike_injector shape run = record { journal = refl; opened = refl; drawn = refl }
 
--- an event that a lost site refuses
-alike_unless : (run : Progress) (step : Stepped) → Alike run step.run → Alike run (unless_lost run step).run
+-- an event that a site with a lost group refuses
+alike_unless : (run : Progress) (step : StepResult) → Alike run step.run → Alike run (unless_lost run step).run
 alike_unless run step alike = go run.lost
   where
     go : (lost : Option (ℕ × ℕ)) → Alike run (option_map_or (λ loss. unchanged run (outcomes.SiteLost loss.0 (record { 0 = loss.1 }))) lost step).run
     go None = alike
     go (Some loss) = alike_self run
 
-keeps_unless : (shape : Shape) (left to_come own : ℕ) (run : Progress) (step : Stepped) → Keeps shape (suc left) (own + to_come) run → Keeps shape left to_come step.run → Keeps shape left to_come (unless_lost run step).run
+keeps_unless : (shape : Shape) (left to_come own : ℕ) (run : Progress) (step : StepResult) → Keeps shape (suc left) (own + to_come) run → Keeps shape left to_come step.run → Keeps shape left to_come (unless_lost run step).run
 keeps_unless shape left to_come own run step before keeps = go run.lost
   where
     go : (lost : Option (ℕ × ℕ)) → Keeps shape left to_come (option_map_or (λ loss. unchanged run (outcomes.SiteLost loss.0 (record { 0 = loss.1 }))) lost step).run
     go None = keeps
     go (Some loss) = keeps_alike shape left to_come own run run (alike_self run) before
 
--- a change for each operation
+-- a transaction has one change for each operation
 as_many : (shape : Shape) (operations : List ClientOp) (run : Progress) → length (tx_changes shape operations run) ≡ length operations
 unfolding Rattle.rb_journal_defs.specs.Transaction.changes_made
 as_many shape operations run = length-map operations (λ operation. change_over (server_of shape.site) (run.drawn + 1) (rows_of shape run operation.table operation.key) operation)
@@ -246,13 +246,13 @@ keeps_play script legal =
     keeps_on (script.setup.a.groups * script.setup.a.replicas) script.setup.tables (script.setup.a.groups * script.setup.a.replicas) (not_played script.setup) script.events legal.events
     (record { fits = tt; room = tt; order = omega arith; epochs = tt; opened = omega arith; drawn = omega arith; few_epochs = omega (arith, legal.few_events); few_changes = omega (arith, legal.few_changes) })
 
--- each body that a legal script's run completes is read back
+-- each body that a legal script's run completes is readable
 pub completed_readable : (script : Script) → IsLegal script → All IsReadable (completed_bodies (shape_of script.setup) (play script).run.journal)
 completed_readable script legal =
     All-from_recursion IsReadable (completed_bodies (shape_of script.setup) (play script).run.journal)
     (completed_read (script.setup.a.groups * script.setup.a.replicas) script.setup.tables (play script).run legal.tables legal.few_tables (keeps_play script legal))
 
--- and so is each that it writes
+-- each body that it logs is readable
 pub written_read : (script : Script) → IsLegal script → All IsReadable (log_of script)
 written_read script legal =
     All-from_recursion IsReadable (log_of script)

@@ -16,7 +16,7 @@ use Rattle.rb_text_defs.specs.Legal.{IsLegalTable}
 use Rattle.rb_play_defs.proofs.Columns.{values_short}
 use Rattle.rb_read_defs.specs.Readable.{IsColumn, IsReadableTable}
 
--- a text of a short row is short
+-- a column of a short row has a short maximum length
 column_room : (column : Column) → column_bytes column ≤ 1000 → IsColumn column
 column_room Num few = tt
 column_room Long few = tt
@@ -28,7 +28,7 @@ columns_room (column ∷ columns) few =
     let most : sum_by column_bytes (column ∷ columns) ≡ sum_by column_bytes (column ∷ []) + sum_by column_bytes columns = sum_by-append column_bytes (column ∷ []) columns in
     (column_room column (omega arith), columns_room columns (omega arith))
 
--- a table with room
+-- a table that has room in the log
 pub record TableHasRoom (table : Mapped) : Type 0 where
   pub readable : IsReadableTable table
   pub above : 0 < table.id

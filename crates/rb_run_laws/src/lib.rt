@@ -1,7 +1,9 @@
-//! Laws over whole runs that take two languages at once: what the script of a run says, and what a reader of its log sees.
+//! Laws over whole runs that relate two languages: the meaning of a run's script, and the reading
+//! of its log.
 //!
-//! The definitions are those of the play of a script and of the reading of a log, and what it means that files are read as
-//! these epochs (`specs/Files`). The laws stand in `law`.
+//! The definitions are those of a script's run and of the reading of a log. `specs/Files` adds the
+//! relation between binlog files and the epochs that a reader gets from them. The laws are in
+//! `law`.
 #![tactic(auto)]
 
 pub mod law;

@@ -4,5 +4,5 @@ mod WordLaws
 mod FormLaws
 mod AllOf
 mod TableLaws
-mod TellsLaws
+mod SummaryLaws
 mod RunLaws

@@ -16,19 +16,19 @@ use Rattle.rb_text_defs.specs.declared.script.Script.{Script}
 use Rattle.rb_text_defs.specs.declared.script.Limit.TheVariants.{Bytes}
 use Rattle.rb_text_defs.specs.declared.script.ScriptKind.TheVariants.{Limit}
 use Rattle.rb_text_defs.specs.Words.{lines_of}
-use Rattle.rb_text_defs.specs.Form.{Reading, reading_of}
+use Rattle.rb_text_defs.specs.Form.{LineMeaning, reading_of}
 use Rattle.rb_text_defs.specs.Script.{bad_line, default_site, first_of, form_in, most_bytes, refusal_of_line, refused_lines, script_in, script_of, script_of_readings}
 use Rattle.rb_script.specs.declared.before.Before.{Before}
-use Rattle.rb_script.specs.Tells.{forms_of, Tells}
+use Rattle.rb_script.specs.Summarizes.{forms_of, Summarizes}
 use Rattle.rb_script.proofs.LineLaws.{lines_of_empty}
 
 -- why the line of this place is refused
-abbrev pub refusal_at : List Reading → ℕ × Reading → Option BadLine
+abbrev pub refusal_at : List LineMeaning → ℕ × LineMeaning → Option BadLine
 refusal_at all numbered = refusal_of_line (filter_map form_in (take numbered.0 all)) (numbered.0 + 1) numbered.1
 
--- of these bytes so many lines are read, none of which is refused, and this is left
+-- of these bytes this many lines are read, none of which is refused, and this is left
 pub record HasRead (bytes : List ℕ) (before : Before) (rest : List ℕ) : Type 0 where
-  pub told : Tells (take before.lines (map reading_of (lines_of bytes))) before
+  pub summary : Summarizes (take before.lines (map reading_of (lines_of bytes))) before
   pub fine : filter_map (refusal_at (map reading_of (lines_of bytes))) (enumerate_from 0 (take before.lines (map reading_of (lines_of bytes)))) ≡ []
   pub left : drop before.lines (map reading_of (lines_of bytes)) ≡ map reading_of (lines_of rest)
 
@@ -52,7 +52,7 @@ one_less xs i x later is =
     let cut = drop_more xs i x (within xs i x later is) in cc
 
 -- what is refused up to one more line
-refused_more : (all : List Reading) (i : ℕ) (reading : Reading) (later : List Reading) → drop i all ≡ reading ∷ later
+refused_more : (all : List LineMeaning) (i : ℕ) (reading : LineMeaning) (later : List LineMeaning) → drop i all ≡ reading ∷ later
     → filter_map (refusal_at all) (enumerate_from 0 (take i all)) ≡ []
     → filter_map (refusal_at all) (enumerate_from 0 (take (i + 1) all)) ≡ option_to_list (refusal_of_line (forms_of (take i all)) (i + 1) reading)
 refused_more all i reading later is fine =
@@ -85,22 +85,22 @@ refused_here bytes before rest line after bad read cut is =
 -- one more line is read
 pub one_more_read : (bytes : List ℕ) (before : Before) (rest line after : List ℕ) (now : Before) → HasRead bytes before rest → lines_of rest ≡ line ∷ lines_of after → now.lines ≡ before.lines + 1
     → refusal_of_line (forms_of (take before.lines (map reading_of (lines_of bytes)))) (before.lines + 1) (reading_of line) ≡ None
-    → Tells (take before.lines (map reading_of (lines_of bytes)) ++ reading_of line ∷ []) now → HasRead bytes now after
-one_more_read bytes before rest line after now read cut count fine told =
+    → Summarizes (take before.lines (map reading_of (lines_of bytes)) ++ reading_of line ∷ []) now → HasRead bytes now after
+one_more_read bytes before rest line after now read cut count fine summary =
     let all = map reading_of (lines_of bytes) in
     let left : drop before.lines all ≡ reading_of line ∷ map reading_of (lines_of after) = read.left ∙ ap (map reading_of) cut in
     record {
-      told = subst (λ readings. Tells readings now) (sym (ap (λ n. take n all) count ∙ one_more all before.lines (reading_of line) _ left)) told;
+      summary = subst (λ readings. Summarizes readings now) (sym (ap (λ n. take n all) count ∙ one_more all before.lines (reading_of line) _ left)) summary;
       fine = ap (λ n. filter_map (refusal_at all) (enumerate_from 0 (take n all))) count ∙ refused_more all before.lines (reading_of line) _ left read.fine ∙ ap option_to_list fine;
       left = ap (λ n. drop n all) count ∙ one_less all before.lines (reading_of line) _ left;
     }
 
 -- nothing is read
-pub nothing_read : (bytes : List ℕ) (before : Before) → Tells [] before → HasRead bytes before bytes
-nothing_read bytes before told =
-    let none : before.lines ≡ 0 = told.lines in
+pub nothing_read : (bytes : List ℕ) (before : Before) → Summarizes [] before → HasRead bytes before bytes
+nothing_read bytes before summary =
+    let none : before.lines ≡ 0 = summary.lines in
     record {
-      told = subst (λ readings. Tells readings before) (sym (ap (λ n. take n (map reading_of (lines_of bytes))) none)) told;
+      summary = subst (λ readings. Summarizes readings before) (sym (ap (λ n. take n (map reading_of (lines_of bytes))) none)) summary;
       fine = ap (λ n. filter_map (refusal_at (map reading_of (lines_of bytes))) (enumerate_from 0 (take n (map reading_of (lines_of bytes))))) none;
       left = ap (λ n. drop n (map reading_of (lines_of bytes))) none;
     }
@@ -121,14 +121,14 @@ pub script_of_bad : (bytes : List ℕ) (bad : BadLine) → length bytes ≤ most
 unfolding script_of_readings
 script_of_bad bytes bad few is = script_of_few bytes few ∙ ap (λ first. option_map_or (λ bad. Err bad) first (Ok (script_in (map reading_of (lines_of bytes))))) is
 
--- the script that is told
-pub whole_script : (readings : List Reading) (before : Before) → Tells readings before
+-- the script that is named
+pub whole_script : (readings : List LineMeaning) (before : Before) → Summarizes readings before
     → (record { setup = record { mode = EpochTrans; a = option_map_or (λ shape. shape) before.site default_site; b = default_site; tables = before.tables }; events = before.events }) ≡ script_in readings
-whole_script readings before told = rw (told.events, told.forms.site, told.forms.tables) refl
+whole_script readings before summary = rw (summary.events, summary.forms.site, summary.forms.tables) refl
 
 -- all is read
 pub script_of_read : (bytes : List ℕ) (before : Before) (rest : List ℕ) (script : Script) → length bytes ≤ most_bytes → HasRead bytes before rest → length rest ≡ 0
-    → ((readings : List Reading) → Tells readings before → script ≡ script_in readings) → script_of bytes ≡ Ok script
+    → ((readings : List LineMeaning) → Summarizes readings before → script ≡ script_in readings) → script_of bytes ≡ Ok script
 unfolding script_of_readings
 script_of_read bytes before [] script few read end is =
     let all = map reading_of (lines_of bytes) in
@@ -136,7 +136,7 @@ script_of_read bytes before [] script few read end is =
     let whole : take before.lines all ≡ all = take_all before.lines all (omega (arith, length-drop before.lines all, ap length left)) in
     let fine : refused_lines all ≡ [] = ap (λ readings. filter_map (refusal_at all) (enumerate_from 0 readings)) (sym whole) ∙ read.fine in
     script_of_few bytes few ∙ ap (λ bads. option_map_or (λ bad. Err bad) (first_of bads) (Ok (script_in all))) fine
-    ∙ ap Ok (sym (is all (subst (λ readings. Tells readings before) whole read.told)))
+    ∙ ap Ok (sym (is all (subst (λ readings. Summarizes readings before) whole read.summary)))
 script_of_read bytes before (byte ∷ rest) script few read end is = absurd (omega arith)
 
 -- a fault that is handed on

@@ -14,7 +14,7 @@ split_found at xs i lt before here =
     let place : position_or_len p xs ≡ i = position_or_len_is p xs i 0 (omega arith) before (λ _. here) in
     subst (λ n. slice_split p xs ≡ take n xs ∷ slice_split p (drop (n + 1) xs)) place (slice_split_first p xs 0 (omega arith))
 
--- and nowhere, if there is none
+-- and at no place, if there is none
 pub split_missed : (at : ℕ) (xs : List ℕ) → ((k : ℕ) → k < length xs → (get_or xs k 0 == at) ≡ false) → slice_split (λ byte. byte == at) xs ≡ xs ∷ []
 split_missed at xs none =
     let p = λ (byte : ℕ). byte == at in

@@ -56,7 +56,7 @@ pieces_precede (byte ∷ after) = elim (cases_Bool (byte == 34)) [
       ∙ precede_onto byte (pieces_of after) (omega (arith, length-slice_split (λ byte. byte == 34) after))
 ]
 
--- the pieces of what follows a text let it precede, where that follows which may
+-- the pieces of what follows a text let it precede, if that follows which may
 precedes : (after next : List ℕ) (later : List (List ℕ)) → pieces_of after ≡ next ∷ later → lets_a_text_precede next later ≡ (is_empty after || begins_with is_blank after)
 unfolding precede_pieces
 precedes after next later cut = sym (ap precede_pieces cut) ∙ pieces_precede after
@@ -73,7 +73,7 @@ text_between outside text after (next ∷ later) same =
     pieces_between outside text next later
     ∙ ap (λ (b : Bool). if list_all is_text_byte text && lets_a_text_follow outside && b then option_map (λ words. plain_words outside ++ (Quoted text ∷ words)) (words_between_quotes (next ∷ later)) else None) (precedes after next later same)
 
--- a text, and the words behind it
+-- a text, and the words after it
 pub words_of_text : (rest outside quoted text after : List ℕ) → pieces_of rest ≡ outside ∷ pieces_of quoted → pieces_of quoted ≡ text ∷ pieces_of after → words_of rest
     ≡ (if list_all is_text_byte text && lets_a_text_follow outside && (is_empty after || begins_with is_blank after) then option_map (λ words. plain_words outside ++ (Quoted text ∷ words)) (words_of after) else None)
 unfolding words_of
@@ -91,13 +91,13 @@ pub words_of_placed : (rest outside quoted text after : List ℕ) → pieces_of 
     → words_of rest ≡ option_map (λ words. plain_words outside ++ (Quoted text ∷ words)) (words_of after)
 words_of_placed rest outside quoted text after cut again some = words_of_text rest outside quoted text after cut again ∙ cond-true _ _ _ some
 
--- words in front of words in front of others
-pub in_front : (words plain : List Word) (text : Word) (later : Option (List Word))
+-- words before words before others
+pub in_prefix : (words plain : List Word) (text : Word) (later : Option (List Word))
     → option_map (λ others. words ++ others) (option_map (λ others. plain ++ (text ∷ others)) later) ≡ option_map (λ others. ((words ++ plain) ++ text ∷ []) ++ others) later
-in_front words plain text None = refl
-in_front words plain text (Some later) = ap Some (simp append_assoc)
+in_prefix words plain text None = refl
+in_prefix words plain text (Some later) = ap Some (simp append_assoc)
 
--- one part more is looked at: an empty one
+-- one more part is looked at: an empty one
 pub part_empty : {X : Type 0} (now : X → List ℕ) (parts : List X) (i : ℕ) (d : X) → i < length parts → length (now (get_or parts i d)) ≡ 0
     → filter (λ bytes. not (is_empty bytes)) (map now (take (i + 1) parts)) ≡ filter (λ bytes. not (is_empty bytes)) (map now (take i parts))
 part_empty now parts i d lt empty =

@@ -1,3 +1,3 @@
 pub mod Refused
 pub mod Seen
-pub mod Tells
+pub mod Summarizes

@@ -4,7 +4,7 @@ use Rattle.rb_text_defs.specs.declared.script.ScriptKind.{ScriptKind}
 use Rattle.rb_script.specs.declared.fault.ParseFault.{ParseFault}
 use Rattle.rb_script.specs.declared.fault.ParseFault.TheVariants.{Bad, NoMemory}
 
--- this holds of the line and the kind, where the result is that the script is bad
+-- this holds of the line and the kind, if the result is a bad script
 abbrev pub IfBad : {T : Type 0} → Result T ParseFault → (ℕ → ScriptKind → Type 0) → Type 0
 IfBad (Ok value) P = ⊤
 IfBad (Err (Bad line kind)) P = P line kind

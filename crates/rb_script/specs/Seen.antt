@@ -1,4 +1,4 @@
--- What the parser's own words, operations and forms stand for in the definitions.
+-- What the parser's own words, operations and forms represent in the definitions.
 use Rattle.std.specs.Prelude.{ℕ, List, [], ◌∷◌, map, Option, Some, None}
 use Rattle.rb_base.specs.declared.site.SiteId.{SiteId}
 use Rattle.rb_base.specs.declared.schema.Column.{Column}
@@ -13,8 +13,8 @@ use Rattle.rb_script.specs.declared.column.ColumnType.TheVariants as types
 use Rattle.rb_script.specs.declared.operation.Operation.{Operation}
 use Rattle.rb_script.specs.declared.form.Form.{Form}
 use Rattle.rb_script.specs.declared.form.Form.TheVariants.{Site, Table, Tx, Event}
-use Rattle.rb_script.specs.declared.reading.Reading.{Reading}
-use Rattle.rb_script.specs.declared.reading.Reading.TheVariants.{Wrong, Skipped, Says}
+use Rattle.rb_script.specs.declared.reading.ReadLine.{ReadLine}
+use Rattle.rb_script.specs.declared.reading.ReadLine.TheVariants.{Wrong, Skipped, Says}
 
 -- a word
 abbrev pub word_of : Word → words.Word
@@ -37,18 +37,18 @@ form_seen (Table name types) = forms.TableLine name.now (map column_seen types.i
 form_seen (Tx site operations) = forms.TxLine site (map operation_seen operations.items)
 form_seen (Event event) = forms.EventLine event
 
--- how a line reads
-abbrev pub reading_seen : Reading → forms.Reading
+-- what a line says
+abbrev pub reading_seen : ReadLine → forms.LineMeaning
 reading_seen Wrong = forms.Wrong
 reading_seen Skipped = forms.Skipped
 reading_seen (Says form) = forms.Says (form_seen form)
 
--- the site of words that are nothing else
+-- the site, if the words are one site and nothing else
 unfoldable pub only_site : List words.Word → Option SiteId
 only_site (site ∷ []) = forms.site_of site
 only_site words = None
 
--- the site and the node of words that are nothing else
+-- the site and the node, if the words are these and nothing else
 unfoldable pub site_and_node : List words.Word → Option (SiteId × ℕ)
 site_and_node (site ∷ node ∷ []) = do
   id ← forms.site_of site

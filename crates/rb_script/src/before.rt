@@ -1,10 +1,10 @@
 ghost use Rattle.std.specs.Prelude.{◌≡◌, ◌+◌, ◌*◌, ◌<◌, ◌≤◌, nat_le, ◌∷◌, [], ◌++◌, List, length, map, IfNone, Some, None, OnOk, true, false, option_map};
 ghost use Rattle.std.specs.Option.{option_map_or};
 ghost use Rattle.rb_base.specs.declared.script.Event.TheVariants as events;
-ghost use Rattle.rb_text_defs.specs.Form.{EventLine, Form as LineForm, Reading, Says, Skipped};
+ghost use Rattle.rb_text_defs.specs.Form.{EventLine, Form as LineForm, LineMeaning, Says, Skipped};
 ghost use Rattle.rb_text_defs.specs.Script.{bad_line, client_op, closes_in_form, is_misplaced, limit_passed, most_changes, most_lines, most_row_bytes, most_tables, node_in, refusal_of_line, restarts_in_form, row_bytes, script_in};
 ghost use Rattle.rb_script.specs.Seen.{column_seen, form_seen, operation_seen};
-ghost use Rattle.rb_script.specs.Tells.{HasRoom, IsSmall, Tells, TellsForms, forms_of};
+ghost use Rattle.rb_script.specs.Summarizes.{HasRoom, IsSmall, Summarizes, SummarizesForms, forms_of};
 
 use crate::column::{ColumnType, columns_of};
 use crate::form::Form;
@@ -22,30 +22,30 @@ const DEFAULT_SITE: SiteSetup = SiteSetup {
     limit: DEFAULT_LIMIT,
 };
 
-/// What the lines so far tell.
+/// A summary of the lines so far.
 #[derive(Drop)]
 pub(crate) struct Before {
-    /// How many they are.
+    /// The number of lines.
     pub(crate) lines: u32,
-    /// The shape of site A, where a line gave one.
+    /// The shape of site A, if a line gave one.
     pub(crate) site: Option<SiteSetup>,
     pub(crate) tables: Schemas,
-    /// Whether one of them was an event.
+    /// Whether one of the lines was an event.
     pub(crate) has_event: bool,
-    /// How many changes the transactions have.
+    /// The number of changes of the transactions.
     pub(crate) changes: u32,
-    /// How many epochs are closed.
+    /// The number of closed epochs.
     pub(crate) closes: u32,
-    /// How often a node fails or starts, or all owners send again.
+    /// How often a node fails or restarts, or all owners resend.
     pub(crate) restarts: u32,
     pub(crate) events: LinedEvents,
 }
 
 impl Before {
-    /// What no lines tell.
-    #[tactic(auto, using(crate::proofs::TellsLaws::told_none))]
+    /// Returns the summary of no lines.
+    #[tactic(auto, using(crate::proofs::SummaryLaws::none_summary))]
     pub(crate) fn new(alloc: Global) -> Self
-        ensures { Tells [] result }
+        ensures { Summarizes [] result }
     {
         Before {
             lines: 0,
@@ -59,10 +59,11 @@ impl Before {
         }
     }
 
-    /// What is wrong with a line of this form, that it does not fit those before it or passes a limit.
+    /// Returns why a line of this form is refused: it does not fit the lines before it, or it
+    /// exceeds a limit.
     pub(crate) fn refusal(&self, form: &Form<'_>) -> Option<ScriptKind>
         requires { IsSmall self.now }
-        ensures kind { (forms : List LineForm) → TellsForms forms self.now
+        ensures kind { (forms : List LineForm) → SummarizesForms forms self.now
             → option_map (λ kind. bad_line (self.now.lines + 1) kind) result
             ≡ refusal_of_line forms (self.now.lines + 1) (Says (form_seen form.now)) }
         ensures room { IfNone result (HasRoom self.now (form_seen form.now)) }
@@ -76,9 +77,10 @@ impl Before {
         }
     }
 
-    /// Whether a line of this form does not fit those before it.
+    /// Returns whether a line of this form does not fit the lines before it.
     fn is_misplaced(&self, form: &Form<'_>) -> bool
-        ensures { (forms : List LineForm) → TellsForms forms self.now → result ≡ is_misplaced forms (form_seen form.now) }
+        ensures { (forms : List LineForm) → SummarizesForms forms self.now →
+            result ≡ is_misplaced forms (form_seen form.now) }
     {
         match form {
             Form::Site(..) => self.has_event || self.site.is_some(),
@@ -90,9 +92,11 @@ impl Before {
         }
     }
 
-    /// Whether an event names a node that the site does not have.
+    /// Returns whether an event names a node that the site does not have.
     fn lacks_node(&self, event: &Event) -> bool
-        ensures { result ≡ option_map_or (nat_le (option_map_or (λ shape. shape.groups * shape.replicas) self.now.site 1)) (node_in event.now) false }
+        ensures { result ≡ option_map_or
+            (nat_le (option_map_or (λ shape. shape.groups * shape.replicas) self.now.site 1))
+            (node_in event.now) false }
     {
         match node_in(event) {
             Some(node) => self.nodes() <= u64::from(node),
@@ -100,7 +104,7 @@ impl Before {
         }
     }
 
-    /// How many nodes the site has.
+    /// Returns the number of the site's nodes.
     fn nodes(&self) -> u64
         ensures { result ≡ option_map_or (λ shape. shape.groups * shape.replicas) self.now.site 1 }
     {
@@ -110,10 +114,10 @@ impl Before {
         }
     }
 
-    /// The first limit that a line of this form passes.
+    /// Returns the first limit that a line of this form exceeds.
     fn limit_passed(&self, form: &Form<'_>) -> Option<Limit>
         requires { IsSmall self.now }
-        ensures limit { (forms : List LineForm) → TellsForms forms self.now
+        ensures limit { (forms : List LineForm) → SummarizesForms forms self.now
             → result ≡ limit_passed forms (self.now.lines + 1) (form_seen form.now) }
         ensures room { IfNone result (HasRoom self.now (form_seen form.now)) }
     {
@@ -134,22 +138,25 @@ impl Before {
         }
     }
 
-    /// Counts a line that says nothing.
+    /// Counts a line that is skipped.
     pub(crate) fn skip(&mut self)
         requires { self.old.lines < most_lines }
-        ensures told { (readings : List Reading) → Tells readings self.old → Tells (readings ++ Skipped ∷ []) self.new }
+        ensures summary { (readings : List LineMeaning) → Summarizes readings self.old →
+            Summarizes (readings ++ Skipped ∷ []) self.new }
         ensures lines { self.new.lines ≡ self.old.lines + 1 }
     {
         self.lines += 1;
     }
 
-    /// Takes in a line of this form, which is not refused. Without memory it may be taken in in part.
+    /// Adds a line of this form, which must not be refused. If memory allocation fails, part of the
+    /// line may have been added.
     pub(crate) fn take(&mut self, alloc: Global, form: Form<'_>) -> Result<(), NoMemory>
         requires small { IsSmall self.old }
         requires room { HasRoom self.old (form_seen form) }
-        ensures told { OnOk result ((readings : List Reading) → Tells readings self.old
-            → refusal_of_line (forms_of readings) (self.old.lines + 1) (Says (form_seen form.entry)) ≡ None
-            → Tells (readings ++ Says (form_seen form.entry) ∷ []) self.new) }
+        ensures summary { OnOk result ((readings : List LineMeaning) → Summarizes readings self.old
+            → refusal_of_line (forms_of readings) (self.old.lines + 1) (Says (form_seen form.entry))
+            ≡ None
+            → Summarizes (readings ++ Says (form_seen form.entry) ∷ []) self.new) }
         ensures lines { OnOk result (self.new.lines ≡ self.old.lines + 1) }
     {
         match form {
@@ -172,9 +179,10 @@ impl Before {
         }
     }
 
-    /// The script that the lines tell together.
+    /// Returns the script of all lines together.
     pub(crate) fn into_script(self) -> Script
-        ensures { (readings : List Reading) → Tells readings self → result ≡ script_in readings }
+        ensures { (readings : List LineMeaning) → Summarizes readings self →
+            result ≡ script_in readings }
     {
         Script {
             setup: Setup {
@@ -215,7 +223,8 @@ impl Before {
         ensures { OnOk result (self.new ≡ record {
           lines = self.old.lines + 1;
           site = self.old.site;
-          tables = self.old.tables ++ record { name = name.now; columns = map column_seen types.now } ∷ [];
+          tables = self.old.tables ++ record
+              { name = name.now; columns = map column_seen types.now } ∷ [];
           has_event = self.old.has_event;
           changes = self.old.changes;
           closes = self.old.closes;
@@ -249,7 +258,8 @@ impl Before {
           restarts = self.old.restarts;
           events = self.old.events ++ record {
             line = self.old.lines + 1;
-            event = events.Tx site (map (client_op self.old.tables) (map operation_seen operations.now));
+            event = events.Tx site (map (client_op self.old.tables)
+                (map operation_seen operations.now));
           } ∷ [];
         }) }
     {
@@ -268,7 +278,8 @@ impl Before {
         requires lines { self.old.lines < most_lines }
         requires closes { self.old.closes ≤ self.old.lines }
         requires restarts { self.old.restarts ≤ self.old.lines }
-        ensures few { OnOk result ((self.new.closes ≤ self.new.lines) × (self.new.restarts ≤ self.new.lines)) }
+        ensures few { OnOk result ((self.new.closes ≤ self.new.lines)
+            × (self.new.restarts ≤ self.new.lines)) }
         ensures taken { OnOk result (self.new ≡ record {
           lines = self.old.lines + 1;
           site = self.old.site;
@@ -292,7 +303,7 @@ impl Before {
     }
 }
 
-/// How many epochs an event closes.
+/// Returns the number of epochs that an event closes.
 fn closes_in(event: &Event) -> u32
     ensures closes { result ≡ closes_in_form (EventLine event.now) }
     ensures few { result ≤ 1 }
@@ -303,7 +314,7 @@ fn closes_in(event: &Event) -> u32
     }
 }
 
-/// How often an event makes a node fail or start, or all owners send again.
+/// Returns how often an event makes a node fail or restart, or all owners resend.
 fn restarts_in(event: &Event) -> u32
     ensures restarts { result ≡ restarts_in_form (EventLine event.now) }
     ensures few { result ≤ 1 }
@@ -314,7 +325,7 @@ fn restarts_in(event: &Event) -> u32
     }
 }
 
-/// The node that an event names.
+/// Returns the node that an event names.
 fn node_in(event: &Event) -> Option<u32>
     ensures { result ≡ node_in event.now }
 {
@@ -325,7 +336,7 @@ fn node_in(event: &Event) -> Option<u32>
     }
 }
 
-/// How many nodes a site of this shape has.
+/// Returns the number of nodes of a site of this shape.
 fn nodes_of(shape: SiteSetup) -> u64
     ensures { result ≡ shape.groups * shape.replicas }
 {

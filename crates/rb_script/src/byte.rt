@@ -2,7 +2,7 @@ ghost use Rattle.std.specs.Prelude.{◌≡◌, ◌≤◌, length, IsTrue, if◌t
 ghost use Rattle.std.specs.List.{list_all};
 ghost use Rattle.rb_text_defs.specs.Words.{begins_with, decimal_value, ends_with, is_blank, is_digit, is_letter, is_line_byte, is_name, is_name_byte, is_number, is_skipped, is_text_byte};
 
-/// The value of 1 to 20 decimal digits, where it has at most 64 bits.
+/// Returns the value of 1 to 20 decimal digits, if it has at most 64 bits.
 pub(crate) fn number(bytes: &[u8]) -> Option<u64>
     ensures { result ≡ (if is_number bytes.now then Some (decimal_value bytes.now) else None) }
 {
@@ -12,7 +12,7 @@ pub(crate) fn number(bytes: &[u8]) -> Option<u64>
     u64::try_from(decimal_value(bytes)).ok()
 }
 
-/// The value of at most 20 digits.
+/// Returns the value of at most 20 digits.
 fn decimal_value(digits: &[u8]) -> u128
     requires few { length digits.now ≤ 20 }
     requires digits { IsTrue (list_all is_digit digits.now) }
@@ -25,7 +25,8 @@ fn decimal_value(digits: &[u8]) -> u128
     value
 }
 
-/// Whether these bytes are a name: at most 32 of them, a letter first, and then letters, digits and underscores.
+/// Returns whether these bytes are a name: at most 32, a letter first, then letters, digits and
+/// underscores.
 #[tactic(auto, unfolding(rb_text_defs::specs::Words::is_name))]
 pub(crate) fn is_name(bytes: &[u8]) -> bool
     ensures { result ≡ is_name bytes.now }
@@ -33,21 +34,22 @@ pub(crate) fn is_name(bytes: &[u8]) -> bool
     bytes.len() <= 32 && begins_with_letter(bytes) && are_name_bytes(bytes)
 }
 
-/// Whether all bytes of a line may stand in one: tabs, and those that print.
+/// Returns whether all bytes may stand in a line: tabs and printable bytes.
 pub(crate) fn are_line_bytes(line: &[u8]) -> bool
     ensures { result ≡ list_all is_line_byte line.now }
 {
     line.iter().all(|byte| is_line_byte(*byte))
 }
 
-/// Whether all bytes may stand in a text: those that print.
+/// Returns whether all bytes may stand in a text: printable bytes.
 pub(crate) fn are_text_bytes(bytes: &[u8]) -> bool
     ensures { result ≡ list_all is_text_byte bytes.now }
 {
     bytes.iter().all(|byte| is_text_byte(*byte))
 }
 
-/// Whether a line says nothing: it is blank, or its first byte behind the blanks is a number sign.
+/// Returns whether a line is skipped: it is blank, or its first byte after the blanks is a number
+/// sign.
 #[tactic(auto, unfolding(rb_text_defs::specs::Words::is_skipped))]
 pub(crate) fn is_skipped(line: &[u8]) -> bool
     ensures { result ≡ is_skipped line.now }
@@ -60,7 +62,7 @@ pub(crate) fn is_skipped(line: &[u8]) -> bool
     true
 }
 
-/// Whether the last byte is a space or a tab.
+/// Returns whether the last byte is a space or a tab.
 pub(crate) fn ends_with_blank(bytes: &[u8]) -> bool
     ensures { result ≡ ends_with is_blank bytes.now }
 {

@@ -7,16 +7,16 @@ use crate::word::Word;
 use rb_base::{Column, Columns, NoMemory};
 use std::alloc::Global;
 
-/// The type of a column, as a line says it.
+/// The type of a column, as a line writes it.
 #[derive(Clone, Copy)]
 pub(crate) enum ColumnType {
     /// A number.
     Num,
-    /// A text of at most so many bytes: 1 or more, also more than a row has room for.
+    /// A text of at most this many bytes, at least 1. It may be more than a row has room for.
     Text(u32),
 }
 
-/// The type that a word says.
+/// Returns the type that a word names.
 pub(crate) fn type_of(word: Word<'_>) -> Option<ColumnType>
     ensures { option_map column_seen result ≡ type_of (word_of word.entry) }
 {
@@ -30,7 +30,7 @@ pub(crate) fn type_of(word: Word<'_>) -> Option<ColumnType>
     Some(ColumnType::Text(most))
 }
 
-/// How many bytes a text has at most, by the number behind `text:`.
+/// Returns the most bytes of a text, from the number after `text:`.
 fn maximum_of(word: Word<'_>) -> Option<u32>
     ensures { result ≡ maximum_of (word_of word.entry) }
 {
@@ -43,7 +43,7 @@ fn maximum_of(word: Word<'_>) -> Option<u32>
     }
 }
 
-/// The columns of these types, whose rows are short enough for a table.
+/// Returns the columns of these types. Their rows must be short enough for a table.
 pub(crate) fn columns_of(alloc: Global, types: &[ColumnType]) -> Result<Columns, NoMemory>
     requires { row_bytes (map column_seen types.now) ≤ most_row_bytes }
     ensures { IfOk result (λ columns. columns ≡ map column_seen types.now) }
@@ -55,7 +55,7 @@ pub(crate) fn columns_of(alloc: Global, types: &[ColumnType]) -> Result<Columns,
     Ok(Columns::from_vec(columns))
 }
 
-/// The column of a type that has room in a row.
+/// Returns the column of a type that has room in a row.
 fn column_of(column_type: ColumnType) -> Column
     requires { column_bytes (column_seen column_type) ≤ most_row_bytes }
     ensures { result ≡ column_seen column_type }

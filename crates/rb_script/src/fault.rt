@@ -5,12 +5,12 @@ use rb_base::NoMemory;
 use rb_text_defs::ScriptKind;
 use std::alloc::{AllocError, AllocFailed};
 
-/// Why a script was not read.
+/// Why a script was not parsed.
 #[derive(Clone, Copy, Debug, PartialEq, Eq)]
 pub enum ParseFault {
-    /// The first line that is refused, counted from 1, and what is wrong with it. Line 0 is the script as a whole.
+    /// The first bad line, counted from 1, and why it is refused. Line 0 is the script as a whole.
     Bad { line: u32, kind: ScriptKind },
-    /// There was not enough memory for the script, or for the words of a line.
+    /// Memory ran out for the script, or for the words of a line.
     NoMemory,
 }
 

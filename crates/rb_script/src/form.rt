@@ -16,7 +16,7 @@ use std::alloc::{AllocError, Global};
 pub(crate) enum Form<'a> {
     /// The shape of a site.
     Site(SiteId, SiteSetup),
-    /// A table, with the types of its columns behind the key.
+    /// A table, with the types of its columns after the key.
     Table(&'a [u8], Vec<ColumnType>),
     /// A client's transaction.
     Tx(SiteId, Vec<Operation<'a>>),
@@ -24,7 +24,7 @@ pub(crate) enum Form<'a> {
     Event(Event),
 }
 
-/// What a line of these words says, where they are of a form.
+/// Returns what a line of these words says, if they are of a form.
 #[tactic(auto, unfolding(rb_text_defs::specs::Form::form_of))]
 pub(crate) fn read_form<'a>(alloc: Global, words: &[Word<'a>]) -> Result<Option<Form<'a>>, NoMemory>
     ensures { IfOk result (λ form. option_map form_seen form ≡ form_of (map word_of words.now)) }
@@ -35,14 +35,15 @@ pub(crate) fn read_form<'a>(alloc: Global, words: &[Word<'a>]) -> Result<Option<
     }
 }
 
-/// What a line says whose first word is this one.
+/// Returns what a line says whose first word is this one.
 #[tactic(auto, unfolding(rb_text_defs::specs::Form::form_from))]
 fn form_from<'a>(
     alloc: Global,
     first: Word<'a>,
     words: &[Word<'a>],
 ) -> Result<Option<Form<'a>>, NoMemory>
-    ensures { IfOk result (λ form. option_map form_seen form ≡ form_from (word_of first.entry) (map word_of words.now)) }
+    ensures { IfOk result (λ form. option_map form_seen form
+        ≡ form_from (word_of first.entry) (map word_of words.now)) }
 {
     if first.is(b"site") {
         Ok(site_line(words))
@@ -73,7 +74,7 @@ fn form_from<'a>(
     }
 }
 
-/// The shape of a site: `S groups G replicas R limit L`.
+/// Parses the shape of a site: `S groups G replicas R limit L`.
 #[tactic(auto, using(crate::proofs::FormLaws::site_line_other))]
 fn site_line<'a>(words: &[Word<'a>]) -> Option<Form<'a>>
     ensures { option_map form_seen result ≡ site_line (map word_of words.now) }
@@ -86,7 +87,7 @@ fn site_line<'a>(words: &[Word<'a>]) -> Option<Form<'a>>
     )
 }
 
-/// The shape of a site that seven words say.
+/// Parses the shape of a site from seven words.
 #[tactic(auto, unfolding(rb_text_defs::specs::Form::site_line))]
 fn site_shape<'a>(
     site: Word<'a>,
@@ -98,7 +99,8 @@ fn site_shape<'a>(
     length: Word<'a>,
 ) -> Option<Form<'a>>
     ensures { option_map form_seen result
-        ≡ site_line (word_of site.entry ∷ word_of groups.entry ∷ word_of count.entry ∷ word_of replicas.entry
+        ≡ site_line (word_of site.entry ∷ word_of groups.entry ∷ word_of count.entry ∷ word_of
+        replicas.entry
         ∷ word_of nodes.entry ∷ word_of limit.entry ∷ word_of length.entry ∷ []) }
 {
     let site = site_of(site)?;
@@ -113,14 +115,14 @@ fn site_shape<'a>(
     Some(Form::Site(site, shape))
 }
 
-/// The site that a word names.
+/// Returns the site that a word names.
 fn site_of(word: Word<'_>) -> Option<SiteId>
     ensures { result ≡ site_of (word_of word.entry) }
 {
     if word.is(b"A") { Some(SiteId::A) } else { None }
 }
 
-/// A table: `NAME TYPE ..`.
+/// Parses a table: `NAME TYPE ..`.
 #[tactic(auto, unfolding(rb_text_defs::specs::Form::table_line))]
 fn table_line<'a>(alloc: Global, words: &[Word<'a>]) -> Result<Option<Form<'a>>, NoMemory>
     ensures { IfOk result (λ form. option_map form_seen form ≡ table_line (map word_of words.now)) }
@@ -131,14 +133,15 @@ fn table_line<'a>(alloc: Global, words: &[Word<'a>]) -> Result<Option<Form<'a>>,
     }
 }
 
-/// The table of this name, with columns of these types.
+/// Returns the table of this name, with columns of these types.
 #[tactic(auto, unfolding(rb_text_defs::specs::Form::table_line))]
 fn table<'a>(
     alloc: Global,
     name: Word<'a>,
     types: &[Word<'a>],
 ) -> Result<Option<Form<'a>>, NoMemory>
-    ensures { IfOk result (λ form. option_map form_seen form ≡ table_line (word_of name.entry ∷ map word_of types.now)) }
+    ensures { IfOk result (λ form. option_map form_seen form
+        ≡ table_line (word_of name.entry ∷ map word_of types.now)) }
 {
     let Some(name) = name.name() else {
         return Ok(None);
@@ -149,7 +152,7 @@ fn table<'a>(
     Ok(Some(Form::Table(name, types)))
 }
 
-/// The types that these words say, where each says one.
+/// Returns the types that these words name, if each names one.
 fn types_of(alloc: Global, words: &[Word<'_>]) -> Result<Option<Vec<ColumnType>>, NoMemory>
     ensures { IfOk result (λ types. option_map (λ types. map column_seen types.items) types
         ≡ all_of (map type_of (map word_of words.now))) }
@@ -164,7 +167,7 @@ fn types_of(alloc: Global, words: &[Word<'_>]) -> Result<Option<Vec<ColumnType>>
     Ok(Some(types))
 }
 
-/// A client's transaction: `S OP ; OP ..`.
+/// Parses a client's transaction: `S OP ; OP ..`.
 #[tactic(auto, unfolding(rb_text_defs::specs::Form::tx_line))]
 fn tx_line<'a>(alloc: Global, words: &[Word<'a>]) -> Result<Option<Form<'a>>, NoMemory>
     ensures { IfOk result (λ form. option_map form_seen form ≡ tx_line (map word_of words.now)) }
@@ -175,14 +178,15 @@ fn tx_line<'a>(alloc: Global, words: &[Word<'a>]) -> Result<Option<Form<'a>>, No
     }
 }
 
-/// The transaction of these words at this site.
+/// Parses the operations of a transaction at this site.
 #[tactic(auto, unfolding(rb_text_defs::specs::Form::tx_line))]
 fn transaction<'a>(
     alloc: Global,
     site: Word<'a>,
     words: &[Word<'a>],
 ) -> Result<Option<Form<'a>>, NoMemory>
-    ensures { IfOk result (λ form. option_map form_seen form ≡ tx_line (word_of site.entry ∷ map word_of words.now)) }
+    ensures { IfOk result (λ form. option_map form_seen form
+        ≡ tx_line (word_of site.entry ∷ map word_of words.now)) }
 {
     let Some(site) = site_of(site) else {
         return Ok(None);
@@ -193,19 +197,20 @@ fn transaction<'a>(
     Ok(Some(Form::Tx(site, operations)))
 }
 
-/// The operations between the semicolons, where each is one.
+/// Returns the operations between the semicolons, if each is one.
 fn operations_of<'a>(
     alloc: Global,
     words: &[Word<'a>],
 ) -> Result<Option<Vec<Operation<'a>>>, NoMemory>
-    ensures { IfOk result (λ operations. option_map (λ operations. map operation_seen operations.items) operations
+    ensures { IfOk result (λ operations.
+        option_map (λ operations. map operation_seen operations.items) operations
         ≡ all_of (map operation_of (slice_split (is_word (codes ";")) (map word_of words.now)))) }
 {
     let pieces = pieces(alloc, words)?;
     operations_in(alloc, &pieces)
 }
 
-/// What stands before, between and after the semicolons.
+/// Returns the pieces before, between and after the semicolons.
 fn pieces<'a, 'b>(alloc: Global, words: &'b [Word<'a>]) -> Result<Vec<&'b [Word<'a>]>, AllocError>
     ensures { IfOk result (λ pieces. map (λ piece. piece.now) pieces.items
         ≡ slice_split (λ word. is_word (codes ";") (word_of word)) words.now) }
@@ -219,12 +224,13 @@ fn is_semicolon(word: Word<'_>) -> bool
     word.is(b";")
 }
 
-/// The operations that these pieces say, where each says one.
+/// Returns the operations that these pieces say, if each says one.
 fn operations_in<'a>(
     alloc: Global,
     pieces: &[&[Word<'a>]],
 ) -> Result<Option<Vec<Operation<'a>>>, NoMemory>
-    ensures { IfOk result (λ operations. option_map (λ operations. map operation_seen operations.items) operations
+    ensures { IfOk result (λ operations.
+        option_map (λ operations. map operation_seen operations.items) operations
         ≡ all_of (map (λ piece. operation_of (map word_of piece.now)) pieces.now)) }
 {
     let mut operations = Vec::new(alloc);
@@ -237,7 +243,7 @@ fn operations_in<'a>(
     Ok(Some(operations))
 }
 
-/// The site of words that are nothing else.
+/// Returns the site, if the words are one site and nothing else.
 #[tactic(auto, unfolding(crate::specs::Seen::only_site))]
 fn only_site(words: &[Word<'_>]) -> Option<SiteId>
     ensures { result ≡ only_site (map word_of words.now) }
@@ -248,52 +254,57 @@ fn only_site(words: &[Word<'_>]) -> Option<SiteId>
     }
 }
 
-/// A close of the open epoch at the site that these words name.
+/// Parses a close of the open epoch: `S`.
 #[tactic(auto, using(crate::proofs::FormLaws::site_event_only))]
 fn close_line<'a>(words: &[Word<'_>], gci: bool) -> Option<Form<'a>>
-    ensures { option_map form_seen result ≡ site_event (λ site. events.Close site gci) (map word_of words.now) }
+    ensures { option_map form_seen result
+        ≡ site_event (λ site. events.Close site gci) (map word_of words.now) }
 {
     let site = only_site(words)?;
     Some(Form::Event(Event::Close(site, gci)))
 }
 
-/// An injection at the site that these words name.
+/// Parses an `inject`: `S`.
 #[tactic(auto, using(crate::proofs::FormLaws::site_event_only))]
 fn inject_line<'a>(words: &[Word<'_>]) -> Option<Form<'a>>
-    ensures { option_map form_seen result ≡ site_event (λ site. events.Inject site) (map word_of words.now) }
+    ensures { option_map form_seen result
+        ≡ site_event (λ site. events.Inject site) (map word_of words.now) }
 {
     let site = only_site(words)?;
     Some(Form::Event(Event::Inject(site)))
 }
 
-/// A delivery of all and an injection at the site that these words name.
+/// Parses a `log`: `S`.
 #[tactic(auto, using(crate::proofs::FormLaws::site_event_only))]
 fn log_line<'a>(words: &[Word<'_>]) -> Option<Form<'a>>
-    ensures { option_map form_seen result ≡ site_event (λ site. events.Log site) (map word_of words.now) }
+    ensures { option_map form_seen result
+        ≡ site_event (λ site. events.Log site) (map word_of words.now) }
 {
     let site = only_site(words)?;
     Some(Form::Event(Event::Log(site)))
 }
 
-/// A resend of what is not acknowledged at the site that these words name.
+/// Parses a `resend`: `S`.
 #[tactic(auto, using(crate::proofs::FormLaws::site_event_only))]
 fn resend_line<'a>(words: &[Word<'_>]) -> Option<Form<'a>>
-    ensures { option_map form_seen result ≡ site_event (λ site. events.Resend site) (map word_of words.now) }
+    ensures { option_map form_seen result
+        ≡ site_event (λ site. events.Resend site) (map word_of words.now) }
 {
     let site = only_site(words)?;
     Some(Form::Event(Event::Resend(site)))
 }
 
-/// A stop of the injector of the site that these words name, whose log is opened again.
+/// Parses an `injector`: `S`.
 #[tactic(auto, using(crate::proofs::FormLaws::site_event_only))]
 fn injector_line<'a>(words: &[Word<'_>]) -> Option<Form<'a>>
-    ensures { option_map form_seen result ≡ site_event (λ site. events.Injector site) (map word_of words.now) }
+    ensures { option_map form_seen result
+        ≡ site_event (λ site. events.Injector site) (map word_of words.now) }
 {
     let site = only_site(words)?;
     Some(Form::Event(Event::Injector(site)))
 }
 
-/// The site and the node of words that are nothing else.
+/// Returns the site and the node, if the words are these and nothing else.
 #[tactic(auto, unfolding(crate::specs::Seen::site_and_node))]
 fn site_and_node(words: &[Word<'_>]) -> Option<(SiteId, u32)>
     ensures { result ≡ site_and_node (map word_of words.now) }
@@ -306,25 +317,27 @@ fn site_and_node(words: &[Word<'_>]) -> Option<(SiteId, u32)>
     Some((site, node))
 }
 
-/// A failure of the node that these words name: `S NODE`.
+/// Parses a failure of a node: `S NODE`.
 #[tactic(auto, using(crate::proofs::FormLaws::node_event_both))]
 fn fail_line<'a>(words: &[Word<'_>]) -> Option<Form<'a>>
-    ensures { option_map form_seen result ≡ node_event (λ site node. events.Fail site node) (map word_of words.now) }
+    ensures { option_map form_seen result
+        ≡ node_event (λ site node. events.Fail site node) (map word_of words.now) }
 {
     let (site, node) = site_and_node(words)?;
     Some(Form::Event(Event::Fail(site, node)))
 }
 
-/// A restart of the node that these words name: `S NODE`.
+/// Parses a restart of a node: `S NODE`.
 #[tactic(auto, using(crate::proofs::FormLaws::node_event_both))]
 fn restart_line<'a>(words: &[Word<'_>]) -> Option<Form<'a>>
-    ensures { option_map form_seen result ≡ node_event (λ site node. events.Restart site node) (map word_of words.now) }
+    ensures { option_map form_seen result
+        ≡ node_event (λ site node. events.Restart site node) (map word_of words.now) }
 {
     let (site, node) = site_and_node(words)?;
     Some(Form::Event(Event::Restart(site, node)))
 }
 
-/// A delivery: `S all`, `S PLACE`.
+/// Parses a delivery: `S all` or `S PLACE`.
 #[tactic(auto, unfolding(rb_text_defs::specs::Form::deliver_line))]
 fn deliver_line<'a>(words: &[Word<'_>]) -> Option<Form<'a>>
     ensures { option_map form_seen result ≡ deliver_line (map word_of words.now) }

@@ -1,9 +1,10 @@
-//! The parser of scripts: it turns the bytes of a script into its setup and its events.
+//! The parser of scripts: it turns the bytes of a script into a setup and events.
 //!
-//! Its contract is that a script is accepted exactly where the definitions give one for its bytes, and that it is then that
-//! one; else that the line and the kind are those of the first line that the definitions refuse. The parse is one pass, in
-//! time linear in the bytes, and ends at the first bad line. Below it stand the types and definitions of the script; above
-//! it stands the program, which plays the events.
+//! Its contract: a script is accepted exactly if the definitions give one for its bytes, and the
+//! result is that one. Otherwise the line and the kind are those of the first line that the
+//! definitions refuse. Parsing is one pass, in time linear in the bytes, and ends at the first bad
+//! line. The types and definitions of scripts stand below; the program, which plays the events,
+//! stands above.
 #![tactic(auto)]
 
 mod before;
@@ -23,6 +24,3 @@ pub use fault::ParseFault;
 pub use limit::MOST_SCRIPT_BYTES;
 pub use lines::parse;
 pub use rb_text_defs::{BadLine, Limit, LinedEvent, LinedEvents, Script, ScriptKind};
-
-#[cfg(test)]
-mod tests;

@@ -3,16 +3,16 @@ ghost use Rattle.rb_text_defs.specs.Script.{least_limit, most_changes, most_limi
 ghost use Rattle.rb_base.specs.declared.schema.Column.TheVariants as columns;
 ghost use Rattle.rb_text_defs.specs.declared.script.Limit.TheVariants as limits;
 ghost use Rattle.rb_script.specs.Seen.{column_seen};
-ghost use Rattle.rb_script.specs.Tells.{first_passed};
+ghost use Rattle.rb_script.specs.Summarizes.{first_passed};
 
 use crate::column::ColumnType;
 use rb_base::{Schema, SiteSetup};
 use rb_text_defs::Limit;
 
-/// How many bytes a script has at most.
+/// The most bytes of a script.
 pub const MOST_SCRIPT_BYTES: u64 = 33554432;
 
-/// How many lines a script has at most.
+/// The most lines of a script.
 pub(crate) const MOST_LINES: u32 = 100000;
 
 const MOST_TABLES: usize = 32;
@@ -25,7 +25,7 @@ const MOST_GROUPS: u32 = 8;
 
 const MOST_REPLICAS: u32 = 4;
 
-/// The length in bytes from which a site's files are rotated, where no line gives another.
+/// The length in bytes at which a site's files are rotated if no line gives another.
 pub(crate) const DEFAULT_LIMIT: u64 = 1048576;
 
 const LEAST_LIMIT: u64 = 512;
@@ -38,14 +38,18 @@ const MOST_CHANGES: u64 = 100000;
 
 const MOST_WORK: u64 = 4000000;
 
-/// How much work a close is, where a change is 1.
+/// The work of a close, if a change is 1.
 const CLOSE_WORK: u32 = 32;
 
-/// The first limit that the shape of a site passes.
+/// Returns the first limit that the shape of a site exceeds.
 pub(crate) fn site_limit(shape: SiteSetup) -> Option<Limit>
-    ensures { result ≡ first_passed ((not (nat_le 1 shape.groups && nat_le shape.groups most_groups), limits.Groups)
+    ensures { result ≡ first_passed
+        ((not (nat_le 1 shape.groups && nat_le shape.groups most_groups), limits.Groups)
         ∷ (not (nat_le 1 shape.replicas && nat_le shape.replicas most_replicas), limits.Replicas)
-        ∷ (not (nat_le least_limit shape.limit && nat_le shape.limit most_limit), limits.LogLimit) ∷ []) }
+        ∷ (
+          not (nat_le least_limit shape.limit && nat_le shape.limit most_limit),
+          limits.LogLimit,
+        ) ∷ []) }
 {
     if !is_within(shape.groups, MOST_GROUPS) {
         return Some(Limit::Groups);
@@ -65,9 +69,11 @@ fn is_within(number: u32, most: u32) -> bool
     1 <= number && number <= most
 }
 
-/// The first limit that a table of columns of these types passes, behind these others.
+/// Returns the first limit that a table with columns of these types exceeds, given the tables
+/// before it.
 pub(crate) fn table_limit(tables: &[Schema], types: &[ColumnType]) -> Option<Limit>
-    ensures first { result ≡ first_passed ((nat_lt most_tables (length tables.now + 1), limits.Tables)
+    ensures first { result ≡ first_passed
+        ((nat_lt most_tables (length tables.now + 1), limits.Tables)
         ∷ (nat_lt most_columns (length (map column_seen types.now)), limits.Columns)
         ∷ (nat_lt most_row_bytes (row_bytes (map column_seen types.now)), limits.RowBytes) ∷ []) }
     ensures few { IfNone result (length tables.now + 1 ≤ most_tables) }
@@ -85,7 +91,7 @@ pub(crate) fn table_limit(tables: &[Schema], types: &[ColumnType]) -> Option<Lim
     None
 }
 
-/// How many bytes a row of a key and columns of these types has at most.
+/// Returns the most bytes of a row of a key and columns of these types.
 fn row_bytes(types: &[ColumnType]) -> u64
     requires { length types.now ≤ 15 }
     ensures { result ≡ row_bytes (map column_seen types.now) }
@@ -97,7 +103,7 @@ fn row_bytes(types: &[ColumnType]) -> u64
     bytes
 }
 
-/// How many bytes a column takes in a row at most: a text has a length before it.
+/// Returns the most bytes of a column in a row. A text has a length before it.
 fn column_bytes(column_type: ColumnType) -> u64
     ensures bytes { result ≡ column_bytes (column_seen column_type) }
     ensures few { result ≤ 2 ^ 32 + 1 }
@@ -119,13 +125,17 @@ fn text_bytes(most: u32) -> u64
     }
 }
 
-/// The first limit that a transaction of so many changes passes, behind so many changes, closes and restarts.
+/// Returns the first limit that a transaction of `changes` changes exceeds, given the counts of
+/// changes, closes and restarts before it.
 pub(crate) fn tx_limit(changes: u32, closes: u32, restarts: u32, count: usize) -> Option<Limit>
     requires closes { closes ≤ most_lines }
     requires restarts { restarts ≤ most_lines }
     ensures first { result ≡ first_passed ((nat_lt most_tx_changes count, limits.TxChanges)
         ∷ (nat_lt most_changes (changes + count), limits.Changes)
-        ∷ (nat_lt most_work ((1 + restarts) * ((changes + count) + 32 * closes)), limits.Work) ∷ []) }
+        ∷ (
+          nat_lt most_work ((1 + restarts) * ((changes + count) + 32 * closes)),
+          limits.Work,
+        ) ∷ []) }
     ensures few { IfNone result (changes + count ≤ most_changes) }
 {
     if count as u64 > MOST_TX_CHANGES {
@@ -138,12 +148,13 @@ pub(crate) fn tx_limit(changes: u32, closes: u32, restarts: u32, count: usize) -
     work_limit(changes as u32, closes, restarts)
 }
 
-/// The limit of work, where so many changes, closes and restarts pass it.
+/// Returns the limit of work, if these counts of changes, closes and restarts exceed it.
 pub(crate) fn work_limit(changes: u32, closes: u32, restarts: u32) -> Option<Limit>
     requires changes { changes ≤ most_changes }
     requires closes { closes ≤ most_lines }
     requires restarts { restarts ≤ most_lines }
-    ensures { result ≡ first_passed ((nat_lt most_work ((1 + restarts) * (changes + 32 * closes)), limits.Work) ∷ []) }
+    ensures { result ≡ first_passed
+        ((nat_lt most_work ((1 + restarts) * (changes + 32 * closes)), limits.Work) ∷ []) }
 {
     if work(changes, closes, restarts) > MOST_WORK {
         return Some(Limit::Work);
@@ -151,7 +162,8 @@ pub(crate) fn work_limit(changes: u32, closes: u32, restarts: u32) -> Option<Lim
     None
 }
 
-/// How much work so many changes and closes are, all of which may be sent once more at each restart.
+/// Returns the work of these counts of changes and closes. All of them may be sent once more at
+/// each restart.
 fn work(changes: u32, closes: u32, restarts: u32) -> u64
     requires changes { changes ≤ most_changes }
     requires closes { closes ≤ most_lines }

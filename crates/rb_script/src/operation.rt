@@ -8,7 +8,7 @@ use crate::word::Word;
 use rb_base::{Bytes, NoMemory, Op, Value, Values};
 use std::alloc::Global;
 
-/// An operation as a line says it: the table by its name, and values, of which a remove has none.
+/// An operation as a line writes it: the table by its name, and the values. A remove has none.
 #[derive(Drop)]
 pub(crate) struct Operation<'a> {
     pub(crate) op: Op,
@@ -17,13 +17,14 @@ pub(crate) struct Operation<'a> {
     pub(crate) values: Values,
 }
 
-/// The operation that these words say, where they are of its form.
+/// Returns the operation that these words say, if they are of its form.
 #[tactic(auto, unfolding(rb_text_defs::specs::Form::operation_of))]
 pub(crate) fn read_operation<'a>(
     alloc: Global,
     words: &[Word<'a>],
 ) -> Result<Option<Operation<'a>>, NoMemory>
-    ensures { IfOk result (λ operation. option_map operation_seen operation ≡ operation_of (map word_of words.now)) }
+    ensures { IfOk result (λ operation. option_map operation_seen operation
+        ≡ operation_of (map word_of words.now)) }
 {
     match words {
         [op, table, key, values @ ..] => whole_operation(alloc, *op, *table, *key, values),
@@ -31,7 +32,7 @@ pub(crate) fn read_operation<'a>(
     }
 }
 
-/// The operation of three words and its values.
+/// Returns the operation of three words and its values.
 #[tactic(auto, unfolding(rb_text_defs::specs::Form::operation_of))]
 fn whole_operation<'a>(
     alloc: Global,
@@ -41,7 +42,8 @@ fn whole_operation<'a>(
     values: &[Word<'a>],
 ) -> Result<Option<Operation<'a>>, NoMemory>
     ensures { IfOk result (λ operation. option_map operation_seen operation
-        ≡ operation_of (word_of op.entry ∷ word_of table.entry ∷ word_of key.entry ∷ map word_of values.now)) }
+        ≡ operation_of (word_of op.entry ∷ word_of table.entry ∷ word_of key.entry ∷ map word_of
+        values.now)) }
 {
     let Some(op) = op_of(op) else {
         return Ok(None);
@@ -66,7 +68,7 @@ fn whole_operation<'a>(
     }))
 }
 
-/// What an operation is called.
+/// Returns the operation that a word names.
 #[tactic(auto, unfolding(rb_text_defs::specs::Form::op_of))]
 fn op_of(word: Word<'_>) -> Option<Op>
     ensures { result ≡ op_of (word_of word.entry) }
@@ -84,7 +86,7 @@ fn op_of(word: Word<'_>) -> Option<Op>
     }
 }
 
-/// Whether an operation of this kind may have these values: a remove has none.
+/// Returns whether an operation of this kind may have these values. A remove has none.
 fn may_have(op: Op, values: &Values) -> bool
     ensures { result ≡ may_have op values.now }
 {
@@ -103,7 +105,7 @@ fn has_none(values: &[Value]) -> bool
     }
 }
 
-/// The values that these words say, where each says one.
+/// Returns the values that these words say, if each says one.
 fn values_of(alloc: Global, words: &[Word<'_>]) -> Result<Option<Values>, NoMemory>
     ensures { IfOk result (λ values. values ≡ all_of (map value_of (map word_of words.now))) }
 {
@@ -117,7 +119,7 @@ fn values_of(alloc: Global, words: &[Word<'_>]) -> Result<Option<Values>, NoMemo
     Ok(Some(Values::from_vec(values)))
 }
 
-/// A value: a number, or a text.
+/// Returns a value: a number or a text.
 #[tactic(auto, unfolding(rb_text_defs::specs::Form::value_of))]
 fn value_of(alloc: Global, word: Word<'_>) -> Result<Option<Value>, NoMemory>
     ensures { IfOk result (λ value. value ≡ value_of (word_of word.entry)) }

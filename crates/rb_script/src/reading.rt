@@ -9,37 +9,38 @@ use crate::word::words;
 use rb_base::NoMemory;
 use std::alloc::Global;
 
-/// How a line reads.
+/// What a line says.
 #[derive(Drop)]
-pub(crate) enum Reading<'a> {
-    /// It is of no form.
+pub(crate) enum ReadLine<'a> {
+    /// The line is of no form.
     Wrong,
-    /// It says nothing.
+    /// The line is a comment or blank.
     Skipped,
-    /// It says this.
+    /// The line says this.
     Says(Form<'a>),
 }
 
-/// How a line reads.
+/// What a line says.
 #[tactic(auto, unfolding(rb_text_defs::specs::Form::reading_of))]
-pub(crate) fn read_line(alloc: Global, line: &[u8]) -> Result<Reading<'_>, NoMemory>
+pub(crate) fn read_line(alloc: Global, line: &[u8]) -> Result<ReadLine<'_>, NoMemory>
     ensures { IfOk result (λ reading. reading_seen reading ≡ reading_of line.now) }
 {
     if !are_line_bytes(line) {
-        return Ok(Reading::Wrong);
+        return Ok(ReadLine::Wrong);
     }
     if is_skipped(line) {
-        return Ok(Reading::Skipped);
+        return Ok(ReadLine::Skipped);
     }
     match form_in(alloc, line)? {
-        Some(form) => Ok(Reading::Says(form)),
-        None => Ok(Reading::Wrong),
+        Some(form) => Ok(ReadLine::Says(form)),
+        None => Ok(ReadLine::Wrong),
     }
 }
 
-/// What the words of a line say, where they are well formed and of a form.
+/// Returns what the words of a line say, if they are well formed and of a form.
 fn form_in(alloc: Global, line: &[u8]) -> Result<Option<Form<'_>>, NoMemory>
-    ensures { IfOk result (λ form. option_map form_seen form ≡ (words_of line.now read_on form_of)) }
+    ensures { IfOk result (λ form. option_map form_seen form
+        ≡ (words_of line.now read_on form_of)) }
 {
     let Some(words) = words(alloc, line)? else {
         return Ok(None);

@@ -9,14 +9,14 @@ use crate::operation::Operation;
 use rb_base::{ClientOp, ClientOps, Column, NoMemory, Op, Row, Schema, Value, Values};
 use std::alloc::Global;
 
-/// The table of this name.
+/// Returns the table of this name.
 pub(crate) fn table_named<'a>(tables: &'a [Schema], name: &[u8]) -> Option<&'a Schema>
     ensures { option_map (λ table. table.now) result ≡ find (is_named name.now) tables.now }
 {
     tables.iter().find(|table| is_named(table, name))
 }
 
-/// The place of the table of this name, from 0.
+/// Returns the place of the table of this name, counted from 0.
 pub(crate) fn place_of_table(tables: &[Schema], name: &[u8]) -> Option<usize>
     ensures place { result ≡ position (is_named name.now) tables.now }
     ensures within { IfSome result (λ place. place < length tables.now) }
@@ -30,7 +30,7 @@ fn is_named(table: &Schema, name: &[u8]) -> bool
     table.name.as_slice() == name
 }
 
-/// Whether each operation is one on a declared table.
+/// Returns whether each operation fits a declared table.
 pub(crate) fn all_suit(tables: &[Schema], operations: &[Operation<'_>]) -> bool
     ensures { result ≡ list_all (suits_tables tables.now) (map operation_seen operations.now) }
 {
@@ -42,7 +42,7 @@ pub(crate) fn all_suit(tables: &[Schema], operations: &[Operation<'_>]) -> bool
     true
 }
 
-/// Whether an operation is one on a declared table.
+/// Returns whether an operation fits a declared table.
 fn suits_tables(tables: &[Schema], operation: &Operation<'_>) -> bool
     ensures { result ≡ suits_tables tables.now (operation_seen operation.now) }
 {
@@ -52,7 +52,7 @@ fn suits_tables(tables: &[Schema], operation: &Operation<'_>) -> bool
     }
 }
 
-/// Whether an operation suits a table.
+/// Returns whether an operation fits a table.
 fn suits_table(operation: &Operation<'_>, table: &Schema) -> bool
     ensures { result ≡ suits_table (operation_seen operation.now) table.now }
 {
@@ -64,7 +64,7 @@ fn suits_table(operation: &Operation<'_>, table: &Schema) -> bool
     }
 }
 
-/// Whether there is a value for each column, of its type.
+/// Returns whether there is a value for each column, of its type.
 #[tactic(auto, using(crate::proofs::TableLaws::suits_columns_other))]
 fn suits_columns(columns: &[Column], values: &[Value]) -> bool
     ensures { result ≡ suits_columns columns.now values.now }
@@ -80,7 +80,7 @@ fn suits_columns(columns: &[Column], values: &[Value]) -> bool
     true
 }
 
-/// Whether a value is of a column's type, and no longer than the column lets it be.
+/// Returns whether a value has a column's type, and is no longer than the column allows.
 fn suits_column(column: Column, value: &Value) -> bool
     ensures { result ≡ suits_column column value.now }
 {
@@ -91,7 +91,7 @@ fn suits_column(column: Column, value: &Value) -> bool
     }
 }
 
-/// Whether a value is a text of at most so many bytes.
+/// Returns whether a value is a text of at most `most` bytes.
 fn is_text(value: &Value, most: u16) -> bool
     ensures { result ≡ suits_column (columns.Text most) value.now }
 {
@@ -101,7 +101,7 @@ fn is_text(value: &Value, most: u16) -> bool
     }
 }
 
-/// A client's operations, on the tables that they name.
+/// Returns a client's operations, on the tables that they name.
 #[tactic(auto, using(crate::proofs::AllOf::map_mapped))]
 pub(crate) fn client_ops(
     alloc: Global,
@@ -109,7 +109,8 @@ pub(crate) fn client_ops(
     operations: &[Operation<'_>],
 ) -> Result<ClientOps, NoMemory>
     requires { length tables.now ≤ most_tables }
-    ensures { IfOk result (λ ops. ops ≡ map (client_op tables.now) (map operation_seen operations.now)) }
+    ensures { IfOk result (λ ops. ops
+        ≡ map (client_op tables.now) (map operation_seen operations.now)) }
 {
     let mut ops = Vec::new(alloc);
     for operation in operations {
@@ -118,7 +119,7 @@ pub(crate) fn client_ops(
     Ok(ClientOps::from_vec(ops))
 }
 
-/// An operation on the table that it names.
+/// Returns an operation on the table that it names.
 fn client_op(
     alloc: Global,
     tables: &[Schema],
@@ -136,7 +137,7 @@ fn client_op(
     })
 }
 
-/// The number of the table of this name, from 1.
+/// Returns the number of the table of this name, counted from 1.
 fn table_number(tables: &[Schema], name: &[u8]) -> u16
     requires { length tables.now ≤ most_tables }
     ensures { result ≡ table_number tables.now name.now }
@@ -147,9 +148,10 @@ fn table_number(tables: &[Schema], name: &[u8]) -> u16
     }
 }
 
-/// The row that an operation puts: the key before the values. A remove has none.
+/// Returns the row that an operation puts: the key before the values. A remove has none.
 fn row_for(alloc: Global, operation: &Operation<'_>) -> Result<Option<Row>, NoMemory>
-    ensures { IfOk result (λ row. row ≡ row_for operation.now.op operation.now.key operation.now.values) }
+    ensures { IfOk result (λ row. row
+        ≡ row_for operation.now.op operation.now.key operation.now.values) }
 {
     match operation.op {
         Op::Ins | Op::Upd | Op::Put => {
@@ -160,7 +162,7 @@ fn row_for(alloc: Global, operation: &Operation<'_>) -> Result<Option<Row>, NoMe
     }
 }
 
-/// A row of a key and other values.
+/// Returns a row of a key and other values.
 fn row(alloc: Global, key: u64, others: &[Value]) -> Result<Row, NoMemory>
     ensures { IfOk result (λ row. row ≡ record { values = Num key ∷ others.now }) }
 {

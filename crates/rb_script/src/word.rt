@@ -14,12 +14,12 @@ use std::alloc::{AllocError, Global};
 pub(crate) enum Word<'a> {
     /// Bytes without blanks and quotes.
     Plain(&'a [u8]),
-    /// A text, without the quotes round it.
+    /// A text, without its quotes.
     Quoted(&'a [u8]),
 }
 
 impl<'a> Word<'a> {
-    /// Whether this is the plain word of these bytes.
+    /// Returns whether this is the plain word of these bytes.
     pub(crate) fn is(self, bytes: &[u8]) -> bool
         ensures { result ≡ is_word bytes.now (word_of self.entry) }
     {
@@ -29,7 +29,7 @@ impl<'a> Word<'a> {
         }
     }
 
-    /// The number that it says.
+    /// Returns the number that the word spells.
     #[tactic(auto, unfolding(rb_text_defs::specs::Words::number_of))]
     pub(crate) fn number(self) -> Option<u64>
         ensures { result ≡ number_of (word_of self.entry) }
@@ -40,14 +40,14 @@ impl<'a> Word<'a> {
         }
     }
 
-    /// The number of 32 bits that it says.
+    /// Returns the number that the word spells, if it has at most 32 bits.
     pub(crate) fn small_number(self) -> Option<u32>
         ensures { result ≡ small_number_of (word_of self.entry) }
     {
         u32::try_from(self.number()?).ok()
     }
 
-    /// The name that it says.
+    /// Returns the name that the word spells.
     #[tactic(auto, unfolding(rb_text_defs::specs::Words::name_of))]
     pub(crate) fn name(self) -> Option<&'a [u8]>
         ensures { option_map (λ name. name.now) result ≡ name_of (word_of self.entry) }
@@ -59,10 +59,11 @@ impl<'a> Word<'a> {
     }
 }
 
-/// The words of a line, where its texts are well formed: each ends, its bytes print, and blanks or the line's ends stand
-/// round it.
+/// Returns the words of a line, if its texts are well formed: each ends, its bytes are printable,
+/// and it stands between blanks or the line's ends.
 pub(crate) fn words(alloc: Global, line: &[u8]) -> Result<Option<Vec<Word<'_>>>, NoMemory>
-    ensures { IfOk result (λ words. option_map (λ words. map word_of words.items) words ≡ words_of line.now) }
+    ensures { IfOk result (λ words. option_map (λ words. map word_of words.items) words
+        ≡ words_of line.now) }
 {
     let mut words = Vec::new(alloc);
     let mut rest = line;
@@ -78,7 +79,7 @@ pub(crate) fn words(alloc: Global, line: &[u8]) -> Result<Option<Vec<Word<'_>>>,
     Ok(Some(words))
 }
 
-/// What stands before the first quote of a line, and what stands behind it.
+/// Returns what stands before the first quote of a line, and what stands after it.
 fn first_quote(line: &[u8]) -> Option<(&[u8], &[u8])>
     ensures some { IfSome result (λ parts. slice_split (λ byte. byte == 34) line.now
         ≡ parts.0.now ∷ slice_split (λ byte. byte == 34) parts.1.now) }
@@ -92,14 +93,17 @@ fn first_quote(line: &[u8]) -> Option<(&[u8], &[u8])>
     }
 }
 
-/// The text that begins behind a quote, and what follows the quote at its end, where its bytes print and a text may stand
-/// there.
+/// Returns the text that begins after a quote, and what follows its closing quote, if its bytes are
+/// printable and a text may stand there.
 fn text<'a>(outside: &[u8], quoted: &'a [u8]) -> Option<(&'a [u8], &'a [u8])>
     ensures some { IfSome result (λ parts. (rest : List ℕ)
-        → slice_split (λ byte. byte == 34) rest ≡ outside.now ∷ slice_split (λ byte. byte == 34) quoted.now
-        → words_of rest ≡ option_map (λ words. plain_words outside.now ++ (Quoted parts.0.now ∷ words)) (words_of parts.1.now)) }
+        → slice_split (λ byte. byte == 34) rest
+        ≡ outside.now ∷ slice_split (λ byte. byte == 34) quoted.now
+        → words_of rest ≡ option_map (λ words. plain_words outside.now
+        ++ (Quoted parts.0.now ∷ words)) (words_of parts.1.now)) }
     ensures none { IfNone result ((rest : List ℕ)
-        → slice_split (λ byte. byte == 34) rest ≡ outside.now ∷ slice_split (λ byte. byte == 34) quoted.now → words_of rest ≡ None) }
+        → slice_split (λ byte. byte == 34) rest
+        ≡ outside.now ∷ slice_split (λ byte. byte == 34) quoted.now → words_of rest ≡ None) }
     ensures shorter { IfSome result (λ parts. length parts.1.now < length quoted.now) }
 {
     let Some((text, after)) = first_quote(quoted) else {
@@ -111,14 +115,14 @@ fn text<'a>(outside: &[u8], quoted: &'a [u8]) -> Option<(&'a [u8], &'a [u8])>
     Some((text, after))
 }
 
-/// Whether a text may follow these bytes.
+/// Returns whether a text may follow these bytes.
 fn may_follow(outside: &[u8]) -> bool
     ensures { result ≡ lets_a_text_follow outside.now }
 {
     outside.is_empty() || ends_with_blank(outside)
 }
 
-/// Whether a text may stand before these bytes, the rest of a line.
+/// Returns whether a text may stand before these bytes, the rest of a line.
 fn may_precede(after: &[u8]) -> bool
     ensures { result ≡ (is_empty after.now || begins_with is_blank after.now) }
 {
@@ -134,18 +138,20 @@ fn push_plain_words<'a>(
     words: &mut Vec<Word<'a>>,
     piece: &'a [u8],
 ) -> Result<(), NoMemory>
-    ensures { OnOk result (map word_of words.new.items ≡ map word_of words.old.items ++ plain_words piece.now) }
+    ensures { OnOk result (map word_of words.new.items ≡ map word_of words.old.items
+        ++ plain_words piece.now) }
 {
     let parts = parts(alloc, piece)?;
     push_words(words, &parts)?;
     Ok(())
 }
 
-/// Adds those parts that are words: all but the empty ones.
+/// Adds the parts that are words: all but the empty ones.
 fn push_words<'a>(words: &mut Vec<Word<'a>>, parts: &[&'a [u8]]) -> Result<(), NoMemory>
     ensures { OnOk result (map word_of words.new.items
         ≡ map word_of words.old.items
-        ++ map (λ bytes. Plain bytes) (filter (λ bytes. not (is_empty bytes)) (map (λ part. part.now) parts.now))) }
+        ++ map (λ bytes. Plain bytes) (filter (λ bytes. not (is_empty bytes))
+        (map (λ part. part.now) parts.now))) }
 {
     for part in parts {
         if !part.is_empty() {
@@ -155,9 +161,10 @@ fn push_words<'a>(words: &mut Vec<Word<'a>>, parts: &[&'a [u8]]) -> Result<(), N
     Ok(())
 }
 
-/// What stands before, between and after the blanks of a piece.
+/// Returns the parts before, between and after the blanks of a piece.
 fn parts(alloc: Global, piece: &[u8]) -> Result<Vec<&[u8]>, AllocError>
-    ensures { IfOk result (λ parts. map (λ part. part.now) parts.items ≡ slice_split is_blank piece.now) }
+    ensures { IfOk result (λ parts. map (λ part. part.now) parts.items
+        ≡ slice_split is_blank piece.now) }
 {
     piece.split(|byte| is_blank(*byte)).collect(alloc)
 }

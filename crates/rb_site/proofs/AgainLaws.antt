@@ -28,7 +28,7 @@ use Rattle.rb_site.proofs.ShareLaws.{needed_share, unacknowledged_share, owner_s
 use Rattle.rb_site.proofs.MemberLaws.{numbers_split}
 use Rattle.rb_site.proofs.PointLaws.{IsOf, numbers_are, numbers_below_all, groups_are, owner_below, owned_is_of}
 
--- what is told alike of each item
+-- what is said alike of each item
 map_alike : {X Y : Type 0} → (f g : X → Y) (xs : List X) → AllByRecursion (λ x. f x ≡ g x) xs → map f xs ≡ map g xs
 map_alike f g [] alike = refl
 map_alike {X} {Y} f g (x ∷ xs) alike = ap (λ (y : Y). y ∷ map f xs) alike.0 ∙ ap (λ (ys : List Y). g x ∷ ys) (map_alike f g xs alike.1)
@@ -57,7 +57,7 @@ numbers_share buckets now number = ap (λ (n : ℕ). map (λ step. number * now.
 among_own : (now : Buffered) (number bucket : ℕ) → IsOf now.members.replicas number bucket → list_any (λ other. other == bucket) (numbers_in now.members number) ≡ true
 among_own now number bucket is = of_its_group now bucket number (number + 1) (record { within = omega arith; from = is.0; below = is.1 })
 
--- what a node sends again of a bucket of its group
+-- what a node resends of a bucket of its group
 again_share : (shape : Shape) (run : Progress) (number sender bucket : ℕ) → IsOf run.nodes.replicas number bucket →
     again_in (share_of shape.buckets (buffered_by shape run) number) sender bucket ≡ sent_again shape run sender bucket
 again_share shape run number sender bucket is = ap (sent_from sender) (unacknowledged_share shape run number bucket (among_own (buffered_by shape run) number bucket is))
@@ -89,8 +89,8 @@ returns_share shape run number bucket is =
 group_closes : (shape : Shape) (gci : Bool) (run : Progress) (number prev next : ℕ) → prev ≡ previous_closed run.opened run.journal →
     site.only_closed prev next (buffered_by shape run) ≡ buffered_by shape (only_closed gci run) →
     group.sent_at_close prev next (share_of shape.buckets (buffered_by shape run) number) ≡ sent_at_close shape run (only_closed gci run) number
-group_closes shape gci run number prev next before behind =
-    ap (λ (later : Kept). map done (numbers_of kept) ++ flat_map (λ bucket. again_in later bucket bucket) (filter (returns_in later) (numbers_of kept))) (ap (λ (all : Buffered). share_of shape.buckets all number) behind)
+group_closes shape gci run number prev next before following =
+    ap (λ (later : Kept). map done (numbers_of kept) ++ flat_map (λ bucket. again_in later bucket bucket) (filter (returns_in later) (numbers_of kept))) (ap (λ (all : Buffered). share_of shape.buckets all number) following)
     ∙ ap (λ (ns : List ℕ). map done ns ++ flat_map (λ bucket. again_in now bucket bucket) (filter (returns_in now) ns)) (numbers_share shape.buckets (buffered_by shape run) number)
     ∙ ap (λ (ms : List Sent). ms ++ flat_map (λ bucket. again_in now bucket bucket) (filter (returns_in now) numbers))
     (map_alike done (λ bucket. sent_by (owner_in run.nodes) (done_message shape run.opened bucket run.journal)) numbers (all_more (IsOf run.nodes.replicas number) (λ bucket. done bucket ≡ sent_by (owner_in run.nodes) (done_message shape run.opened bucket run.journal)) numbers (λ bucket is. done_share shape run number bucket prev is before) own))
@@ -122,9 +122,9 @@ group_closes shape gci run number prev next before behind =
 pub sent_closing : (shape : Shape) (gci : Bool) (run : Progress) (nodes : Nodes) (prev next : ℕ) → HoldsNodes nodes shape.buckets (buffered_by shape run) → prev ≡ previous_closed run.opened run.journal →
     site.only_closed prev next (buffered_by shape run) ≡ buffered_by shape (only_closed gci run) →
     site.sent_at_close shape.buckets (buffered_by shape run) prev next (length nodes.groups.items) ≡ flat_map (sent_at_close shape run (only_closed gci run)) (numbers_below (shape.buckets / run.nodes.replicas))
-sent_closing shape gci run nodes prev next held before behind =
+sent_closing shape gci run nodes prev next held before following =
     flat_alike (λ number. group.sent_at_close prev next (share_of shape.buckets (buffered_by shape run) number)) (sent_at_close shape run (only_closed gci run)) (numbers_below (length nodes.groups.items))
-    (all_below (length nodes.groups.items) (λ number within. group_closes shape gci run number prev next before behind))
+    (all_below (length nodes.groups.items) (λ number within. group_closes shape gci run number prev next before following))
     ∙ ap (λ (groups : ℕ). flat_map (sent_at_close shape run (only_closed gci run)) (numbers_below groups)) (groups_are nodes shape.buckets (buffered_by shape run) held)
 
 -- messages of one sender
@@ -132,7 +132,7 @@ from_sender : (most sender : ℕ) (messages : List Message) → sender < most �
 from_sender most sender [] below = tt
 from_sender most sender (message ∷ messages) below = (below, from_sender most sender messages below)
 
--- what is sent again by senders below a number
+-- what is resent by senders below a number
 again_senders : (shape : Shape) (run : Progress) (most : ℕ) (sender : ℕ → ℕ) (buckets : List ℕ) → AllByRecursion (λ bucket. sender bucket < most) buckets →
     AllByRecursion (λ m. m.sender < most) (flat_map (λ bucket. sent_again shape run (sender bucket) bucket) buckets)
 again_senders shape run most sender [] below = tt
@@ -191,7 +191,7 @@ by_groups f replicas (suc groups) =
     of_group : ℕ → List Sent
     of_group number = flat_map f (map (λ step. number * replicas + step) (numbers_below replicas))
 
--- what a group sends again
+-- what a group resends
 group_resends : (shape : Shape) (run : Progress) (number : ℕ) →
     group.sent_at_resend (share_of shape.buckets (buffered_by shape run) number) ≡ flat_map (λ bucket. sent_again shape run (owner_in run.nodes bucket) bucket) (numbers_in run.nodes number)
 group_resends shape run number =

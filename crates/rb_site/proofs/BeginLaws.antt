@@ -105,7 +105,7 @@ err_same Y result e f one two other is =
 
 -- an empty device is an image of a log without an epoch
 pub empty_is_image : (limit : ℕ) (seen : ℕ → List ℕ) → ((file : ℕ) → seen file ≡ []) → IsLogImage A limit [] seen
-empty_is_image limit seen empty = image_of_none A limit seen (subst (IsIndexImage []) (sym (empty 0)) (record { behind = []; bytes = refl; more = λ some. absurd (some refl); ended = refl }))
+empty_is_image limit seen empty = image_of_none A limit seen (subst (IsIndexImage []) (sym (empty 0)) (record { following = []; bytes = refl; more = λ some. absurd (some refl); ended = refl }))
 
 -- what its log is written for
 pub setup_begins : (schemas : List Schema) (groups replicas limit : ℕ) (rest : StoppedSite) (tables : List Mapped) → IsStoppedSite (shape_of schemas groups replicas) rest (beginning groups replicas) → inject.IsLimit limit → length schemas < 65536 →

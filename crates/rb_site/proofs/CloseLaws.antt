@@ -59,8 +59,8 @@ closes_more o j (e ∷ es) below =
     ap (λ (p : ℕ). (e, p) ∷ map (closed_with (Closed o ∷ j)) es) (previous_stays e o j (omega arith))
     ∙ ap (λ (ps : List (ℕ × ℕ)). (e, previous_closed e j) ∷ ps) (closes_more o j es below.1)
 
-closes_behind : (o : ℕ) (j : Journal) → AllByRecursion (λ e. e < o) (closed_epochs j) → closes_of j ++ (o, previous_closed o j) ∷ [] ≡ closes_of (Closed o ∷ j)
-closes_behind o j below = sym (
+closes_after : (o : ℕ) (j : Journal) → AllByRecursion (λ e. e < o) (closed_epochs j) → closes_of j ++ (o, previous_closed o j) ∷ [] ≡ closes_of (Closed o ∷ j)
+closes_after o j below = sym (
     map-append (closed_with (Closed o ∷ j)) (closed_epochs j) (o ∷ [])
     ∙ ap (λ (ps : List (ℕ × ℕ)). ps ++ (o, previous_closed o (Closed o ∷ j)) ∷ []) (closes_more o j (closed_epochs j) below)
     ∙ ap (λ (p : ℕ). closes_of j ++ (o, p) ∷ []) (previous_stays o o j (omega arith)))
@@ -78,27 +78,27 @@ written_stays shape gci run sound =
     ap (take run.written) (completed_closed shape run.opened run.journal)
     ∙ take-append-le run.written (completed_bodies shape run.journal) (if_logged (body_of shape run.opened run.journal)) (written_within shape run sound)
 
--- the nodes behind the close, before the buckets return
-pub buffered_behind : (shape : Shape) (gci : Bool) (run : Progress) (prev next : ℕ) → IsSound shape run → prev ≡ previous_closed run.opened run.journal → next ≡ epoch_after gci run.opened →
+-- the nodes after the close, before the buckets return
+pub buffered_after : (shape : Shape) (gci : Bool) (run : Progress) (prev next : ℕ) → IsSound shape run → prev ≡ previous_closed run.opened run.journal → next ≡ epoch_after gci run.opened →
     site.only_closed prev next (buffered_by shape run) ≡ buffered_by shape (only_closed gci run)
-buffered_behind shape gci run prev next sound before after =
+buffered_after shape gci run prev next sound before after =
     let o = run.opened in
     ap (λ (n : ℕ). record { opened = n; acknowledged = acknowledged_epoch shape run; changes = λ e. changes_in shape.site e run.journal; closes = closes_of run.journal ++ (o, prev) ∷ []; members = run.nodes }) after
     ∙ ap (λ (bs : List EpochBody). record { opened = epoch_after gci o; acknowledged = last_epoch bs; changes = λ e. changes_in shape.site e run.journal; closes = closes_of run.journal ++ (o, prev) ∷ []; members = run.nodes }) (sym (written_stays shape gci run sound))
     ∙ ap (λ (f : ℕ → List Change). record { opened = epoch_after gci o; acknowledged = acknowledged_epoch shape (only_closed gci run); changes = f; closes = closes_of run.journal ++ (o, prev) ∷ []; members = run.nodes })
     (fun_ext (λ e. sym (changes_in_closed shape.site e o run.journal)))
     ∙ ap (λ (cs : List (ℕ × ℕ)). record { opened = epoch_after gci o; acknowledged = acknowledged_epoch shape (only_closed gci run); changes = λ e. changes_in shape.site e (Closed o ∷ run.journal); closes = cs; members = run.nodes })
-    (ap (λ (p : ℕ). closes_of run.journal ++ (o, p) ∷ []) before ∙ closes_behind o run.journal (closed_all_below o run.journal sound.order))
+    (ap (λ (p : ℕ). closes_of run.journal ++ (o, p) ∷ []) before ∙ closes_after o run.journal (closed_all_below o run.journal sound.order))
 
--- and behind their return
+-- and after their return
 buffered_closed : (shape : Shape) (gci : Bool) (run : Progress) (prev next : ℕ) → site.only_closed prev next (buffered_by shape run) ≡ buffered_by shape (only_closed gci run) →
     with_close prev next (buffered_by shape run) ≡ buffered_by shape (closed shape gci run)
-buffered_closed shape gci run prev next behind =
+buffered_closed shape gci run prev next following =
     let after = only_closed gci run in
-    ap (λ (now : Buffered). record now { members = with_returns (needed_by now) run.nodes }) behind
+    ap (λ (now : Buffered). record now { members = with_returns (needed_by now) run.nodes }) following
     ∙ ap (λ (n : ℕ). record (buffered_by shape after) { members = with_returns n run.nodes }) (needed_share shape after 0)
 
--- the owners cover behind the close
+-- the owners cover after the close
 covered_closed : (shape : Shape) (gci : Bool) (run : Progress) → IsSound shape run → AllCovered shape.buckets (needed_of shape run) run.nodes → AllCovered shape.buckets (needed_of shape (closed shape gci run)) (closed shape gci run).nodes
 covered_closed shape gci run sound all =
     let after = only_closed gci run in
@@ -116,7 +116,7 @@ closing_are shape gci old seen run prev next messages held is_prev is_next sends
     let before : prev.0 ≡ previous_closed run.opened run.journal = is_prev ∙ ap (λ (h : Hand). h.previous) held.clock in
     let after : next.0 ≡ epoch_after gci run.opened = is_next ∙ ap (λ (h : Hand). epoch_after gci h.opened) held.clock in
     sends shape.buckets (buffered_by shape run) held.nodes
-    ∙ sent_closing shape gci run old.nodes prev.0 next.0 held.nodes before (buffered_behind shape gci run prev.0 next.0 held.sound before after)
+    ∙ sent_closing shape gci run old.nodes prev.0 next.0 held.nodes before (buffered_after shape gci run prev.0 next.0 held.sound before after)
 
 -- and who sends it is one of the nodes
 pub closing_from : (shape : Shape) (gci : Bool) (old : Site) (seen : ℕ → List ℕ) (run : Progress) (prev next : Epoch) (messages : List Sent) → IsSite shape old seen run →
@@ -154,7 +154,7 @@ site_closed shape gci old new seen run prev next messages held is_prev is_next i
           ∙ ap (λ (p : ℕ). record { opened = epoch_after gci o; previous = p; drawn = run.drawn }) (sym (previous_of_next (epoch_after gci o) o run.journal (epoch_rises gci o)));
       rows = λ t k. ap (λ (ts : _). rows_in ts t k) tables ∙ held.rows t k;
       count = ap tables_in tables ∙ held.count;
-      nodes = subst (HoldsNodes new.nodes shape.buckets) (buffered_closed shape gci run prev.0 next.0 (buffered_behind shape gci run prev.0 next.0 held.sound before after)) (nodes shape.buckets (buffered_by shape run) held.nodes);
+      nodes = subst (HoldsNodes new.nodes shape.buckets) (buffered_closed shape gci run prev.0 next.0 (buffered_after shape gci run prev.0 next.0 held.sound before after)) (nodes shape.buckets (buffered_by shape run) held.nodes);
       covered = λ none. cover_at_site shape (closed shape gci run) (covered_closed shape gci run held.sound (cover_in_run shape run (held.covered none)));
       lost = ap loss_of lost ∙ held.lost;
       outbox = subst (λ (ms : List Sent). HoldsSent new.outbox (run.sent ++ ms) run.delivered (failed_in run)) all (outbox run.sent run.delivered (failed_in run) held.outbox);

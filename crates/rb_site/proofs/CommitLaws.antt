@@ -1,4 +1,4 @@
--- What the groups keep behind the commit of one change.
+-- What the groups keep after the commit of one change.
 use Rattle.std.proofs.Common.{◌≡◌, ℕ, Bool, true, false, cond, List, [], ◌∷◌, ◌++◌, refl, sym, ap, ◌∙◌}
 use Rattle.std.specs.Prelude.{◌==◌, ◌&&◌, if◌then◌else◌}
 use Rattle.std.specs.List.{list_any}
@@ -23,7 +23,7 @@ is_of_group site number bucket = list_any (λ other. other == bucket) (numbers_i
 in_bucket_more : (buckets b : ℕ) (cs : List Change) (c : Change) → in_bucket buckets b (cs ++ c ∷ []) ≡ in_bucket buckets b cs ++ (if bucket_number c.table c.key buckets == b then c ∷ [] else [])
 in_bucket_more buckets b cs c = filter-append (λ change. bucket_number change.table change.key buckets == b) cs (c ∷ [])
 
--- what a group keeps of a bucket behind a change of another bucket, or of this one
+-- what a group keeps of a bucket after a change of another bucket, or of this one
 kept_more : (buckets : ℕ) (site : Buffered) (number : ℕ) (c : Change) (e b : ℕ) →
     kept_in (with_changes (c ∷ []) site) buckets number e b
     ≡ kept_in site buckets number e b ++ (if is_of_group site number b && (site.opened == e) && (bucket_number c.table c.key buckets == b) then c ∷ [] else [])
@@ -75,7 +75,7 @@ kept_here buckets site number bucket c is inside e b =
         none true y = append-nil (kept_in site buckets number e b)
         none false y = append-nil (kept_in site buckets number e b)
 
--- so the groups behind a commit stand for their shares
+-- so the groups after a commit represent their shares
 pub group_committed : (buckets : ℕ) (site : Buffered) (number bucket : ℕ) (new : Group) (c : Change) → bucket ≡ bucket_number c.table c.key buckets → is_of_group site number bucket ≡ true →
     Keeps new (with_part bucket c (share_of buckets site number)) → GroupHolds buckets (with_changes (c ∷ []) site) number new
 group_committed buckets site number bucket new c is inside keeps =

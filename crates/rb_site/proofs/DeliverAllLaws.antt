@@ -12,7 +12,7 @@ use Rattle.rb_journal_defs.proofs.Counts.{filter_length}
 use Rattle.rb_message_defs.specs.declared.answers.Received.{Received}
 use Rattle.rb_message_defs.specs.declared.answers.Received.TheVariants as answers
 use Rattle.rb_message_defs.specs.Nodes.{is_gone, waiting_places}
-use Rattle.rb_play_defs.specs.Step.{Progress, Stepped, answer_outcome, deliver_step, undelivered, all_delivered, delivery_outcomes, delivery_of_all, deliver_all_step, is_kept, is_known, is_old, failed_in}
+use Rattle.rb_play_defs.specs.Step.{Progress, StepResult, answer_outcome, deliver_step, undelivered, all_delivered, delivery_outcomes, delivery_of_all, deliver_all_step, is_kept, is_known, is_old, failed_in}
 use Rattle.rb_site.specs.Outbox.{HoldsSent, count_in}
 use Rattle.rb_site.specs.Tally.{sum_of, with_answer}
 use Rattle.rb_site.specs.Site.{IsSite}
@@ -21,7 +21,7 @@ use Rattle.rb_site.specs.declared.tally.Tally.{Tally}
 use Rattle.rb_site.proofs.OutboxLaws.{waiting_rest, waiting_within, still_waiting, still_waiting_is}
 use Rattle.rb_site.proofs.DeliverLaws.{deliver_there}
 
--- what the answers to the places that wait add to those that were counted
+-- what the results for the places that wait add to those that were counted
 pub record AreCounted (shape : Shape) (run now : Progress) (tally : Tally) : Type 0 where
   pub kept : tally.kept + count_by is_kept (delivery_outcomes shape (undelivered now) now) ≡ count_by is_kept (delivery_outcomes shape (undelivered run) run)
   pub known : tally.known + count_by is_known (delivery_outcomes shape (undelivered now) now) ≡ count_by is_known (delivery_outcomes shape (undelivered run) run)
@@ -49,7 +49,7 @@ way_begins shape seen run site held = record {
   few = (let f = filter_length (λ place. not (list_any (λ delivered. delivered == place) run.delivered) && not (is_gone (failed_in run) run.sent place)) (numbers_below (length run.sent)) in let n = numbers_length (length run.sent) in omega arith);
 }
 
--- a site whose outbox was looked at stands for the same
+-- a site whose outbox was looked at represents the same
 pub site_looked : (shape : Shape) (old new : Site) (seen : ℕ → List ℕ) (run : Progress) → IsSite shape old seen run →
     ((ss : List Sent) (ds : List ℕ) (failed_at : ℕ → ℕ) → HoldsSent old.outbox ss ds failed_at → HoldsSent new.outbox ss ds failed_at) →
     new.outbox.failed ≡ old.outbox.failed → new ≡ record old { outbox = new.outbox } → IsSite shape new seen run
@@ -74,7 +74,7 @@ site_looked shape old new seen run held outbox failed rest =
       few = held.few;
     })
 
--- what an outbox answers is the first place that waits
+-- what an outbox returns is the first place that waits
 pub first_waits : (shape : Shape) (seen : ℕ → List ℕ) (run : Progress) (site : Site) (tally : Tally) (next : Option ℕ) (way : IsOnTheWay shape seen run site tally) →
     ((ss : List Sent) (ds : List ℕ) (failed_at : ℕ → ℕ) → HoldsSent site.outbox ss ds failed_at → next ≡ first_of (waiting_places failed_at ss ds)) → next ≡ first_of (undelivered way.now)
 first_waits shape seen run site tally next way first = first way.now.sent way.now.delivered (failed_in way.now) way.held.outbox
@@ -101,7 +101,7 @@ get_within [] k l = absurd (omega arith)
 get_within (x ∷ xs) zero l = (x, refl)
 get_within (x ∷ xs) (suc k) l = get_within xs k (omega arith)
 
--- what is on its way has a first place, where one waits
+-- some place waits first, if one waits
 pub next_place : (shape : Shape) (seen : ℕ → List ℕ) (run : Progress) (site : Site) (tally : Tally) (place : ℕ) (way : IsOnTheWay shape seen run site tally) →
     Some place ≡ first_of (undelivered way.now) → (rest : List ℕ) × (undelivered way.now ≡ place ∷ rest)
 next_place shape seen run site tally place way first = first_is (undelivered way.now) place (sym first)
@@ -130,7 +130,7 @@ sum_more answers.Kept tally = omega arith
 sum_more answers.Known tally = omega arith
 sum_more answers.Old tally = omega arith
 
--- the place is one of those that were sent, and its answer can be counted
+-- the place is one of those that were sent, and its outcome can be counted
 pub place_within : (shape : Shape) (seen : ℕ → List ℕ) (run : Progress) (site : Site) (tally : Tally) (place : ℕ) (way : IsOnTheWay shape seen run site tally) →
     Some place ≡ first_of (undelivered way.now) → place < count_in site.outbox
 place_within shape seen run site tally place way first =
@@ -161,9 +161,9 @@ way_more shape seen run old new tally place answer way first step =
     let stepped = deliver_there shape now place at there in
     let (held, answered) = step shape seen now way.held in
     let after = (deliver_step shape place now).run in
-    let sent : after.sent ≡ now.sent = ap (λ (s : Stepped). s.run.sent) stepped in
+    let sent : after.sent ≡ now.sent = ap (λ (s : StepResult). s.run.sent) stepped in
     let later : undelivered after ≡ rest =
-    ap (λ (s : Stepped). undelivered s.run) stepped ∙ waiting_rest (failed_in now) now.sent place now.delivered rest waits in
+    ap (λ (s : StepResult). undelivered s.run) stepped ∙ waiting_rest (failed_in now) now.sent place now.delivered rest waits in
     let outcomes : delivery_outcomes shape (undelivered now) now ≡ answer_outcome answer ∷ delivery_outcomes shape (undelivered after) after =
     ap (λ (ps : List ℕ). delivery_outcomes shape ps now) waits
     ∙ ap (λ (o : Outcome). o ∷ delivery_outcomes shape rest after) (sym answered)
@@ -193,7 +193,7 @@ way_smaller shape seen run old new tally place answer way first step =
     let stepped = deliver_there shape now place at there in
     let (held, answered) = step shape seen now way.held in
     let later : undelivered (deliver_step shape place now).run ≡ rest =
-    ap (λ (s : Stepped). undelivered s.run) stepped ∙ waiting_rest (failed_in now) now.sent place now.delivered rest waits in
+    ap (λ (s : StepResult). undelivered s.run) stepped ∙ waiting_rest (failed_in now) now.sent place now.delivered rest waits in
     let before : still_waiting old.outbox ≡ suc (length rest) = still_waiting_is old.outbox now.sent now.delivered (failed_in now) way.held.outbox ∙ ap length waits in
     let run_after : Progress = (deliver_step shape place now).run in
     let after : still_waiting new.outbox ≡ length rest = still_waiting_is new.outbox run_after.sent run_after.delivered (failed_in run_after) held.outbox ∙ ap length later in

@@ -11,7 +11,7 @@ use Rattle.rb_message_defs.specs.declared.answers.Received.{Received}
 use Rattle.rb_message_defs.specs.Message.{bucket_in}
 use Rattle.rb_message_defs.specs.Received.{Fed, answer_to}
 use Rattle.rb_evbuf.specs.Buffer.{StandsFor, buckets_of}
-use Rattle.rb_play_defs.specs.Step.{Progress, Stepped, unchanged, fed_by, delivered_message, answer_outcome, deliver_step, failed_in}
+use Rattle.rb_play_defs.specs.Step.{Progress, StepResult, unchanged, fed_by, delivered_message, answer_outcome, deliver_step, failed_in}
 use Rattle.rb_play_defs.specs.Sound.{IsOwn}
 use Rattle.rb_play_defs.proofs.Takes.{of_sent, sound_delivered}
 use Rattle.rb_site.specs.Outbox.{HoldsSent, count_in, nodes_in}
@@ -74,11 +74,11 @@ site_delivered shape old new seen run place message answer held is outbox sender
       made = held.made;
       few = held.few;
     } in (
-      subst (λ (s : Stepped). IsSite shape new seen s.run) (sym step) (subst (λ (s : Site). IsSite shape s seen (delivered_message place at.message run)) (sym rest) after),
-      ap answer_outcome (answers (fed_by shape run) held.events ∙ ap (answer_to (fed_by shape run)) m) ∙ sym (ap (λ (s : Stepped). s.outcome) step),
+      subst (λ (s : StepResult). IsSite shape new seen s.run) (sym step) (subst (λ (s : Site). IsSite shape s seen (delivered_message place at.message run)) (sym rest) after),
+      ap answer_outcome (answers (fed_by shape run) held.events ∙ ap (answer_to (fed_by shape run)) m) ∙ sym (ap (λ (s : StepResult). s.outcome) step),
     )
 
--- a place behind all messages
+-- a place after all messages
 pub none_there : (sent : List Sent) (place : ℕ) → length sent ≤ place → slice_get sent place ≡ None
 none_there [] place over = refl
 none_there (s ∷ sent) zero over = absurd (omega arith)
@@ -91,7 +91,7 @@ not_delivered shape site seen run place count held is over =
     let n : count ≡ length run.sent = is ∙ ap length held.outbox.sent_is in
     let step : deliver_step shape place run ≡ unchanged run (outcomes.NoMessage place (length run.sent)) =
     ap (λ (x : Option Sent). option_map_or (λ sent. record { run = delivered_message place sent.message run; outcome = answer_outcome (answer_to (fed_by shape run) sent.message) }) x (unchanged run (outcomes.NoMessage place (length run.sent)))) (none_there run.sent place (omega arith)) in
-    (subst (λ (s : Stepped). IsSite shape site seen s.run) (sym step) held, ap (outcomes.NoMessage place) n ∙ sym (ap (λ (s : Stepped). s.outcome) step))
+    (subst (λ (s : StepResult). IsSite shape site seen s.run) (sym step) held, ap (outcomes.NoMessage place) n ∙ sym (ap (λ (s : StepResult). s.outcome) step))
 
 -- two facts on Ok
 pub if_ok_both : {X E : Type 0} → (result : Result X E) (P Q : X → Type 0) (R : Type 0) → IfOk result P → OnOk result R → ((x : X) → P x → R → Q x) → IfOk result Q

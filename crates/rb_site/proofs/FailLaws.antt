@@ -16,7 +16,7 @@ use Rattle.rb_group.specs.declared.answers.FailOutcome.{FailOutcome}
 use Rattle.rb_group.specs.declared.answers.FailOutcome.TheVariants as failures
 use Rattle.rb_group.specs.declared.answers.GroupFault.{GroupFault}
 use Rattle.rb_group.specs.declared.answers.GroupFault.TheVariants as faults
-use Rattle.rb_play_defs.specs.Step.{Progress, Stepped, unchanged, needed_of, sent_again, takeover_step, loss_step, fail_step, restart_step, resend_step, failed_in}
+use Rattle.rb_play_defs.specs.Step.{Progress, StepResult, unchanged, needed_of, sent_again, takeover_step, loss_step, fail_step, restart_step, resend_step, failed_in}
 use Rattle.rb_play_defs.specs.Sound.{IsSound}
 use Rattle.rb_play_defs.proofs.Sounds.{sound_takeover, sound_loss, sound_restart, sound_resend}
 use Rattle.rb_play_defs.proofs.Covering.{AllCovered, covered_restart, covered_takeover}
@@ -29,7 +29,7 @@ use Rattle.rb_site.specs.declared.outbox.Outbox.{Outbox}
 use Rattle.rb_site.specs.declared.site.Loss.{Loss}
 use Rattle.rb_site.specs.declared.site.Site.{Site}
 use Rattle.rb_site.proofs.ShareLaws.{needed_share}
-use Rattle.rb_site.proofs.PointLaws.{can_count, cover_at_site, cover_in_run, successor_below, failed_behind, failed_restart}
+use Rattle.rb_site.proofs.PointLaws.{can_count, cover_at_site, cover_in_run, successor_below, failed_after, failed_restart}
 use Rattle.rb_site.proofs.AgainLaws.{sent_taking_over, takeover_senders, sent_resending, resend_senders}
 
 -- what these events need of the nodes
@@ -44,7 +44,7 @@ can_restart shape old seen run node held below room =
 pub can_resend : (shape : Shape) (old : Site) (seen : ℕ → List ℕ) (run : Progress) → IsSite shape old seen run → run.lost ≡ None → CanResend old.nodes
 can_resend shape old seen run held none = (shape.buckets, buffered_by shape run, held.nodes, held.covered none, can_count shape old seen run held)
 
--- a node of a site is one of its nodes, for whichever run it stands
+-- a node of a site is one of its nodes, whichever run it represents
 pub still_below : (shape other : Shape) (old : Site) (seen written : ℕ → List ℕ) (run now : Progress) (node : ℕ) → IsSite shape old seen run → node < shape.buckets → IsSite other old written now → node < other.buckets
 still_below shape other old seen written run now node held below also =
     let one = held.nodes.buckets_are in
@@ -110,12 +110,12 @@ step_was_up : (node : ℕ) (run : Progress) → (node_at run.nodes node).up ≡ 
 unfolding restart_step
 step_was_up node run up = ap (λ (b : Bool). if b then unchanged run (outcomes.NodeUp node) else record { run = record run { nodes = with_restart node run.opened run.nodes }; outcome = outcomes.Restarted (record { 0 = run.opened + 1 }) }) up
 
--- a site that stands where a step leads, and its answer
-at_step : (shape : Shape) (new : Site) (seen : ℕ → List ℕ) (step other : Stepped) (outcome : Outcome) → step ≡ other → IsSite shape new seen other.run → outcome ≡ other.outcome → IsSite shape new seen step.run × (outcome ≡ step.outcome)
-at_step shape new seen step other outcome is held answer = (subst (λ (s : Stepped). IsSite shape new seen s.run) (sym is) held, answer ∙ sym (ap (λ (s : Stepped). s.outcome) is))
+-- a site that represents the result of a step, and its outcome
+at_step : (shape : Shape) (new : Site) (seen : ℕ → List ℕ) (step other : StepResult) (outcome : Outcome) → step ≡ other → IsSite shape new seen other.run → outcome ≡ other.outcome → IsSite shape new seen step.run × (outcome ≡ step.outcome)
+at_step shape new seen step other outcome is held answer = (subst (λ (s : StepResult). IsSite shape new seen s.run) (sym is) held, answer ∙ sym (ap (λ (s : StepResult). s.outcome) is))
 
--- the same, where a branch of the code says which site and which answer these are
-pub at_branch : (shape : Shape) (seen : ℕ → List ℕ) (step : Stepped) (site now : Site) (outcome said : Outcome) → now ≡ site → said ≡ outcome → IsSite shape site seen step.run × (outcome ≡ step.outcome) → IsSite shape now seen step.run × (said ≡ step.outcome)
+-- the same when a branch of the code names the site and the outcome
+pub at_branch : (shape : Shape) (seen : ℕ → List ℕ) (step : StepResult) (site now : Site) (outcome said : Outcome) → now ≡ site → said ≡ outcome → IsSite shape site seen step.run × (outcome ≡ step.outcome) → IsSite shape now seen step.run × (said ≡ step.outcome)
 at_branch shape seen step site now outcome said same answer held = (subst (λ (s : Site). IsSite shape s seen step.run) (sym same) held.0, answer ∙ held.1)
 
 -- nodes whose failure of one had this outcome, or that refused it
@@ -129,7 +129,7 @@ RefusesFailure old new node fault = (b : ℕ) (s : Buffered) → HoldsNodes old 
 abbrev pub RefusesRestart : (old new : Nodes) → (node : ℕ) → GroupFault → Type 0
 RefusesRestart old new node fault = (b : ℕ) (s : Buffered) → HoldsNodes old b s → HoldsNodes new b s × RestartFault s node fault
 
--- what a takeover tells of the run: who the successor is, and what it sends
+-- what a takeover shows of the run: the successor, and what it sends
 pub record TakesOver (shape : Shape) (run : Progress) (node count : ℕ) (messages : List Sent) (new : Nodes) : Type 0 where
   pub successor : ℕ
   pub up : (node_at run.nodes node).up ≡ true
@@ -162,14 +162,14 @@ taking_over_from shape old seen run node count messages new outbox held below se
     subst (λ (n : ℕ). AllByRecursion (λ (message : Sent). message.sender < n) messages) (sym (senders ∙ held.senders))
     (subst (AllByRecursion (λ (message : Sent). message.sender < shape.buckets)) (sym over.messages_are) (takeover_senders shape run node over.successor over.below))
 
--- when the nodes of a run last failed, where one fails now
-abbrev failed_behind_run : Progress → (node other : ℕ) → ℕ
-failed_behind_run run node other = (node_at (with_failure node (length run.sent) run.nodes) other).failed_at
+-- when the nodes of a run last failed, if one fails now
+abbrev failed_after_run : Progress → (node other : ℕ) → ℕ
+failed_after_run run node other = (node_at (with_failure node (length run.sent) run.nodes) other).failed_at
 
 failed_now : (shape : Shape) (run : Progress) (node : ℕ) (sent : List Sent) (outbox : Outbox) → IsSound shape run → node < shape.buckets →
-    HoldsSent outbox sent run.delivered (λ other. if other == node then length run.sent else failed_in run other) → HoldsSent outbox sent run.delivered (failed_behind_run run node)
+    HoldsSent outbox sent run.delivered (λ other. if other == node then length run.sent else failed_in run other) → HoldsSent outbox sent run.delivered (failed_after_run run node)
 failed_now shape run node sent outbox sound below held =
-    subst (HoldsSent outbox sent run.delivered) (fun_ext (λ other. sym (failed_behind run.nodes node (length run.sent) other (let count = sound.nodes.nodes in omega arith)))) held
+    subst (HoldsSent outbox sent run.delivered) (fun_ext (λ other. sym (failed_after run.nodes node (length run.sent) other (let count = sound.nodes.nodes in omega arith)))) held
 
 -- a site whose node failed, and whose buckets a successor took over
 pub site_taken_over : (shape : Shape) (old new : Site) (seen : ℕ → List ℕ) (run : Progress) (node count sent : ℕ) (messages : List Sent) → IsSite shape old seen run → run.lost ≡ None → node < shape.buckets →
@@ -180,7 +180,7 @@ pub site_taken_over : (shape : Shape) (old new : Site) (seen : ℕ → List ℕ)
 site_taken_over shape old new seen run node count sent messages held none below failed outbox senders sent_is rest =
     let over = takes_over shape old seen run node count messages new.nodes held below failed in
     let all = run.sent ++ flat_map (sent_again shape run over.successor) (owned_by run.nodes node) in
-    let box : HoldsSent new.outbox all run.delivered (failed_behind_run run node) =
+    let box : HoldsSent new.outbox all run.delivered (failed_after_run run node) =
     failed_now shape run node all new.outbox held.sound below
     (subst (λ (ms : List Sent). HoldsSent new.outbox (run.sent ++ ms) run.delivered (λ other. if other == node then length run.sent else failed_in run other)) over.messages_are (outbox run.sent run.delivered (failed_in run) held.outbox)) in
     let lost : new.lost ≡ old.lost = ap (λ (s : Site). s.lost) rest in
@@ -203,7 +203,7 @@ site_lost shape old new seen run node group epoch held below failed outbox sende
     let found : successor_of run.nodes (needed_of shape run) node ≡ None = ap (λ (n : ℕ). successor_of run.nodes n node) (sym needed) ∙ is in
     let epoch_here : epoch.0 ≡ needed_of shape run = epoch_is ∙ needed in
     let lost : new.lost ≡ Some (record { group = group; epoch = epoch }) = ap (λ (s : Site). s.lost) rest in
-    let box : HoldsSent new.outbox run.sent run.delivered (failed_behind_run run node) =
+    let box : HoldsSent new.outbox run.sent run.delivered (failed_after_run run node) =
     failed_now shape run node run.sent new.outbox held.sound below (outbox run.sent run.delivered (failed_in run) held.outbox) in
     at_step shape new seen (fail_step shape node run) (loss_step shape node run) (outcomes.Lost group epoch) (step_loses shape node run up found)
     (site_moved shape old new seen run run.sent (with_failure node (length run.sent) run.nodes) (Some (group_of run.nodes node, needed_of shape run)) held (sound_loss shape node run held.sound) stands
@@ -212,7 +212,7 @@ site_lost shape old new seen run node group epoch held below failed outbox sende
     (rest ∙ ap (λ (l : Option Loss). record old { nodes = new.nodes; outbox = new.outbox; lost = l }) (sym lost)))
     (ap (λ (n : ℕ). outcomes.Lost n epoch) group_is ∙ ap (λ (n : ℕ). outcomes.Lost (group_of run.nodes node) (record { 0 = n })) epoch_here)
 
--- a site whose nodes stand for the same
+-- a site whose nodes represent the same
 site_stays : (shape : Shape) (old new : Site) (seen : ℕ → List ℕ) (run : Progress) → IsSite shape old seen run → HoldsNodes new.nodes shape.buckets (buffered_by shape run) → new ≡ record old { nodes = new.nodes } → IsSite shape new seen run
 site_stays shape old new seen run held stands rest =
     let outbox : new.outbox ≡ old.outbox = ap (λ (s : Site). s.outbox) rest in
@@ -231,7 +231,7 @@ site_was_down shape old new seen run node other held refused rest =
     at_step shape new seen (fail_step shape node run) (unchanged run (outcomes.NodeDown node)) (outcomes.NodeDown other) (step_was_down shape node run down)
     (site_stays shape old new seen run held stands rest) (ap outcomes.NodeDown same)
 
--- a site whose node started again
+-- a site whose node restarted
 pub site_restarted : (shape : Shape) (old new : Site) (seen : ℕ → List ℕ) (run : Progress) (node : ℕ) (since : Epoch) → IsSite shape old seen run → node < shape.buckets →
     ((b : ℕ) (s : Buffered) → HoldsNodes old.nodes b s → (since.0 ≡ s.opened + 1) × ((node_at s.members node).up ≡ false) × HoldsNodes new.nodes b (with_members (with_restart node s.opened s.members) s)) →
     new ≡ record old { nodes = new.nodes } →
@@ -244,7 +244,7 @@ site_restarted shape old new seen run node since held below restarted rest =
     let same : failed_in run ≡ (λ (other : ℕ). (node_at (with_restart node run.opened run.nodes) other).failed_at) =
     fun_ext (λ other. sym (failed_restart run.nodes node run.opened other (let count = held.sound.nodes.nodes in omega arith))) in
     at_step shape new seen (restart_step node run) (record { run = record run { nodes = with_restart node run.opened run.nodes }; outcome = outcomes.Restarted (record { 0 = run.opened + 1 }) }) (outcomes.Restarted since) step
-    (site_moved shape old new seen run run.sent (with_restart node run.opened run.nodes) run.lost held (subst (λ (s : Stepped). IsSound shape s.run) step (sound_restart shape node run held.sound)) stands
+    (site_moved shape old new seen run run.sent (with_restart node run.opened run.nodes) run.lost held (subst (λ (s : StepResult). IsSound shape s.run) step (sound_restart shape node run held.sound)) stands
     (λ none. covered_restart shape.buckets (needed_of shape run) node run.opened run.nodes down (cover_in_run shape run (held.covered none))) (ap loss_of lost ∙ held.lost)
     (subst (HoldsSent new.outbox run.sent run.delivered) same (subst (λ (box : Outbox). HoldsSent box run.sent run.delivered (failed_in run)) (sym outbox) held.outbox)) (ap nodes_in outbox)
     (rest ∙ ap (λ (box : Outbox). record old { nodes = new.nodes; outbox = box }) (sym outbox) ∙ ap (λ (l : Option Loss). record old { nodes = new.nodes; outbox = new.outbox; lost = l }) (sym lost)))
@@ -260,7 +260,7 @@ site_was_up shape old new seen run node other held refused rest =
     at_step shape new seen (restart_step node run) (unchanged run (outcomes.NodeUp node)) (outcomes.NodeUp other) (step_was_up node run up)
     (site_stays shape old new seen run held stands rest) (ap outcomes.NodeUp same)
 
--- what the nodes send again is what the run sends again
+-- what the nodes resend is what the run resends
 pub resending_are : (shape : Shape) (old : Site) (seen : ℕ → List ℕ) (run : Progress) (messages : List Sent) → IsSite shape old seen run →
     ((b : ℕ) (s : Buffered) → HoldsNodes old.nodes b s → messages ≡ site.sent_at_resend b s (length old.nodes.groups.items)) →
     messages ≡ flat_map (λ bucket. sent_again shape run (owner_in run.nodes bucket) bucket) (numbers_below shape.buckets)
@@ -274,7 +274,7 @@ resending_from shape old seen run messages held sends =
     subst (λ (n : ℕ). AllByRecursion (λ (message : Sent). message.sender < n) messages) (sym held.senders)
     (subst (AllByRecursion (λ (message : Sent). message.sender < shape.buckets)) (sym (resending_are shape old seen run messages held sends)) (resend_senders shape run old.nodes held.nodes))
 
--- a site whose owners sent again
+-- a site whose owners resent
 pub site_resent : (shape : Shape) (old new : Site) (seen : ℕ → List ℕ) (run : Progress) (messages : List Sent) (sent : ℕ) → IsSite shape old seen run →
     ((b : ℕ) (s : Buffered) → HoldsNodes old.nodes b s → messages ≡ site.sent_at_resend b s (length old.nodes.groups.items)) →
     ((ss : List Sent) (ds : List ℕ) (fa : ℕ → ℕ) → HoldsSent old.outbox ss ds fa → HoldsSent new.outbox (ss ++ messages) ds fa) →

@@ -1,4 +1,4 @@
--- What the nodes of a site stand for behind an event of one group: a node that fails or starts again.
+-- What the nodes of a site represent after an event of one group: a node that fails or restarts.
 use Rattle.std.proofs.Common.{◌≡◌, ◌≢◌, ℕ, ◌+◌, ◌*◌, ◌/◌, ◌<◌, ◌≤◌, Bool, true, false, List, [], length, set, get_or, refl, sym, ap, subst, ◌∙◌, inl, inr, arith, length-set, get_or-set_same, get_or-set_other, ne_eqb}
 use Rattle.std.specs.Prelude.{◌⊎◌, ◌==◌, ◌^◌, if◌then◌else◌, Option, Some, None, is_some, Result, Ok, Err, IfOk, IfErr, OnOk}
 use Rattle.rb_base.specs.declared.epoch.Epoch.{Epoch}
@@ -88,7 +88,7 @@ can_fail nodes node number group (buckets, site, held, below, count) at there = 
   share_fits buckets site number count,
 )
 
--- and start it again
+-- and restart it
 pub can_restart : (nodes : Nodes) (node number : ℕ) (group : Group) → CanRestart nodes node → number ≡ node / nodes.replicas → group ≡ get_or nodes.groups.items number group → called.CanRestart group node
 can_restart nodes node number group (buckets, site, held, below, room) at there = (
   share_of buckets site number,
@@ -105,7 +105,7 @@ apart : (node number k step replicas groups : ℕ) → IsIn node number replicas
 apart node number k step replicas groups is within differs below same =
     differs (one_group node k number replicas groups (subst (λ (x : ℕ). IsIn x k replicas groups) same (record { within = within; from = omega arith; below = omega arith })) is)
 
--- the nodes of another group are as they were
+-- the nodes of another group are unchanged
 others_nodes : (nodes : Nodes) (buckets : ℕ) (site : Buffered) (node number k : ℕ) (to : Node) → HoldsNodes nodes buckets site → IsIn node number site.members.replicas (length nodes.groups.items) → k < length nodes.groups.items → k ≢ number →
     (share_of buckets site k).nodes ≡ (share_of buckets (with_members (with_node node to site.members) site) k).nodes
 others_nodes nodes buckets site node number k to held is within differs =
@@ -141,7 +141,7 @@ others_owners nodes buckets site node number k successor d held is within differ
         ∙ ap (λ (b : Bool). if b then successor else owner_in site.members bucket) (ne_eqb (owner_in site.members bucket) node (λ same.
         differs (one_group node k number site.members.replicas (length nodes.groups.items) (subst (λ (x : ℕ). IsIn x k site.members.replicas (length nodes.groups.items)) same its) is))))
 
--- the nodes behind a change of one node
+-- the nodes after a change of one node
 pub node_set : (nodes next : Nodes) (buckets : ℕ) (site : Buffered) (node number : ℕ) (to : Node) (new : Group) → HoldsNodes nodes buckets site → IsIn node number site.members.replicas (length nodes.groups.items) →
     next.buckets ≡ nodes.buckets → next.replicas ≡ nodes.replicas → next.groups.items ≡ set nodes.groups.items number new →
     Keeps new (with_since node (since_of to) (share_of buckets site number)) → HoldsNodes next buckets (with_members (with_node node to site.members) site)
@@ -158,7 +158,7 @@ node_set nodes next buckets site node number to new held is same_buckets same_re
     fits : number * site.members.replicas + site.members.replicas ≤ buckets
     fits = group_fits number site.members.replicas (length nodes.groups.items) buckets is.within (ap (λ (r : ℕ). length nodes.groups.items * r) (sym held.replicas) ∙ held.count)
 
--- the nodes behind a takeover
+-- the nodes after a takeover
 pub takeover_set : (nodes next : Nodes) (buckets : ℕ) (site : Buffered) (node number successor sent : ℕ) (new : Group) → HoldsNodes nodes buckets site → IsIn node number site.members.replicas (length nodes.groups.items) →
     next.buckets ≡ nodes.buckets → next.replicas ≡ nodes.replicas → next.groups.items ≡ set nodes.groups.items number new →
     Keeps new (with_takeover node successor (share_of buckets site number)) → HoldsNodes next buckets (with_members (with_owner node successor (with_failure node sent site.members)) site)
@@ -235,7 +235,7 @@ pub was_up : (nodes : Nodes) (buckets : ℕ) (site : Buffered) (node number : �
 was_up nodes buckets site node number old held below at there up =
     sym (up_share buckets site node number (length nodes.groups.items) (node_in nodes buckets site node number held below at)) ∙ up (share_of buckets site number) (group_at nodes buckets site node number old held below at there)
 
--- nothing changed where a group refused
+-- nothing changed if a group refused
 pub refused_set : (nodes next : Nodes) (buckets : ℕ) (site : Buffered) (node number : ℕ) (new : Group) → HoldsNodes nodes buckets site → IsIn node number site.members.replicas (length nodes.groups.items) →
     next.buckets ≡ nodes.buckets → next.replicas ≡ nodes.replicas → next.groups.items ≡ set nodes.groups.items number new → GroupHolds buckets site number new → HoldsNodes next buckets site
 refused_set nodes next buckets site node number new held is same_buckets same_replicas items keeps =
@@ -290,7 +290,7 @@ fail_below nodes node (buckets, site, held, below, count) = let same = held.buck
 pub restart_below : (nodes : Nodes) (node : ℕ) → CanRestart nodes node → node < nodes.buckets
 restart_below nodes node (buckets, site, held, below, room) = let same = held.buckets_are in omega arith
 
--- the answers of a failure
+-- the outcomes of a failure
 pub fail_answered : (result : Result FailOutcome GroupFault) (nodes next : Nodes) (node number : ℕ) (old new : Group) → node < nodes.buckets → number ≡ node / nodes.replicas →
     old ≡ get_or nodes.groups.items number old → next.buckets ≡ nodes.buckets → next.replicas ≡ nodes.replicas → next.groups.items ≡ set nodes.groups.items number new →
     IfOk result (λ outcome. (kept : Kept) → Keeps old kept → called.FailsTo kept node outcome new) → OnOk result ((kept : Kept) → Keeps old kept → is_some (since_in kept node) ≡ true) →

@@ -35,7 +35,7 @@ use Rattle.rb_site.proofs.BodyFits.{at_least_one}
 abbrev pub changes_in_bodies : List EpochBody → ℕ
 changes_in_bodies bodies = sum_by (λ body. length body.changes) bodies
 
--- what the event buffer puts together
+-- what the event buffer assembles
 pub next_is : (shape : Shape) (events : EventBuffer) (its : Injector) (seen : ℕ → List ℕ) (run : Progress) (result : Option Assembled) → IsInjectorAt shape events its seen run →
     ((fed : Fed) → StandsFor events fed → AreChained fed.received → result ≡ assembled_of fed) → result ≡ option_map (journal_assembly shape run.last run.journal) (first_of (takeable shape run))
 next_is shape events its seen run result held answers =
@@ -52,7 +52,7 @@ pub one_taken : (f : ℕ → Assembled) (epochs : List ℕ) (assembled : Assembl
 one_taken f [] assembled same = absurd (let g : Some assembled ≡ None = same in cc)
 one_taken f (e ∷ epochs) assembled same = (e, epochs, refl, (let g : Some assembled ≡ Some (f e) = same in cc))
 
--- the event buffer behind it
+-- the event buffer after it
 pub buffer_stays : (shape : Shape) (events : EventBuffer) (its : Injector) (seen : ℕ → List ℕ) (run : Progress) (new : EventBuffer) → IsInjectorAt shape events its seen run →
     ((fed : Fed) → StandsFor events fed → AreChained fed.received → None ≡ assembled_of fed) →
     ((fed : Fed) → StandsFor events fed → AreChained fed.received → StandsFor new (taken_from fed)) → StandsFor new (fed_by shape run)
@@ -111,7 +111,7 @@ written_few shape run sound =
     let g : sum_by f (closed_epochs j) ≤ changes_made shape j = epochs_length shape.site run.opened (closed_epochs j) j (closed_rise run.opened j sound.order) in
     omega arith
 
--- the bodies behind an epoch that is taken
+-- the bodies after an epoch that is taken
 pub bodies_with : (shape : Shape) (run : Progress) (e : ℕ) (rest : List ℕ) → IsSound shape run → takeable shape run ≡ e ∷ rest → has_something_to_log (body_of shape e run.journal) ≡ true →
     written_bodies shape (with_taken shape run e) ≡ written_bodies shape run ++ body_of shape e run.journal ∷ []
 bodies_with shape run e rest sound front logged = written_more shape run e rest sound front ∙ ap (λ (b : Bool). written_bodies shape run ++ cond b (body_of shape e run.journal ∷ []) []) logged
@@ -137,7 +137,7 @@ worth_count shape j (e ∷ epochs) a = go (has_something_to_log (body_of shape e
         omega (arith, sum_by-cons (λ (body : EpochBody). length body.changes) (body_of shape e j) (map made rest))
     go false logged h = h
 
--- so many bodies are written
+-- this many bodies are written
 pub count_is : (shape : Shape) (run : Progress) → IsSound shape run → length (written_bodies shape run) ≡ run.written
 count_is shape run sound = length-take-le run.written (completed_bodies shape run.journal) (written_within shape run sound)
 

@@ -22,10 +22,9 @@ pub mod BodyFits
 pub mod InjectLaws
 pub mod LogLaws
 pub mod TakeLaws
-pub mod TurnLaws
+pub mod EpochLaws
 pub mod BeginLaws
 pub mod MapLaws
 pub mod StepLaws
 pub mod StandLaws
 pub mod RecoverLaws
-pub mod TrialLaws

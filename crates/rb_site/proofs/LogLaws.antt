@@ -1,4 +1,5 @@
--- What the log of a site is ready for: its bodies have room, their epochs rise, and there are few files.
+-- What the log of a site is ready for: its bodies have room, their epochs rise, and there are few
+-- files.
 use Rattle.std.proofs.Common.{◌≡◌, ℕ, zero, suc, ◌+◌, ◌<◌, ◌≤◌, List, [], ◌∷◌, ◌++◌, length, map, get_or, refl, sym, ap, subst, ◌∙◌, arith, inl, inr, length-append}
 use Rattle.std.specs.Prelude.{◌⊎◌, nat_le, Option, Some, None, IfSome, unwrap_or}
 use Rattle.std.specs.List.{AllByRecursion, last_or}
@@ -126,7 +127,7 @@ last_in_few site limit bodies few (inr (earlier, body, is)) =
     subst (λ (bs : List EpochBody). IfSome (last_or None (index_rows site limit bs)) (λ row. row.file < 4294967294)) (sym is)
     (subst (λ (o : Option IndexRow). IfSome o (λ row. row.file < 4294967294)) (sym (last_row site limit earlier body)) (omega (arith, long, few, few_full site limit earlier)))
 
--- a site's log can be opened again
+-- a site's log can be recovered
 pub can_be_recovered : (shape : Shape) (its : Injector) (seen : ℕ → List ℕ) (run : Progress) → AreDeclared shape → length shape.tables ≤ 65536 → IsSound shape run → JournalFits shape run.journal → changes_made shape run.journal ≤ most_made → run.opened < 18446744073709551616 →
     inject.StandsFor its (setup_of shape its) (written_bodies shape run) seen → CanBeRecovered (setup_of shape its) (written_bodies shape run) seen
 can_be_recovered shape its seen run declared tables sound fits few opened held = record {

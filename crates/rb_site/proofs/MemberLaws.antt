@@ -1,4 +1,5 @@
--- The nodes and the owners of a site behind a failure, a takeover, a restart or a return, and what the groups' shares say of them.
+-- The nodes and the owners of a site after a failure, a takeover, a restart or a return, and what
+-- the groups' shares say of them.
 use Rattle.std.proofs.Common.{◌≡◌, ◌⊎◌, ℕ, zero, suc, ◌+◌, ◌*◌, ◌-◌, ◌/◌, ◌<◌, ◌≤◌, Bool, true, false, List, [], ◌∷◌, ◌++◌, length, map, filter, refl, sym, ap, subst, ◌∙◌, inl, inr, arith, append_assoc, ne_eqb}
 use Rattle.std.specs.Prelude.{◌==◌, if◌then◌else◌, nat_lt, Option, Some, unwrap_or}
 use Rattle.std.specs.List.{enumerate_from, find, slice_get}
@@ -25,7 +26,7 @@ use Rattle.rb_site.specs.declared.nodes.Nodes.{Nodes}
 use Rattle.rb_site.proofs.ShareLaws.{get_map, at_number, owner_share, covers_share}
 use Rattle.rb_site.proofs.NodeLaws.{IsIn, group_of_bucket, of_all, share_count}
 
--- a node behind a change of one
+-- a node after a change of one
 pub node_changed : (number other : ℕ) (node : Node) (site : members.Nodes) → other < length site.nodes → node_at (with_node number node site) other ≡ (if other == number then node else node_at site other)
 node_changed number other node site within =
     ap (λ (o : Option Node). unwrap_or o down)
@@ -33,13 +34,13 @@ node_changed number other node site within =
     ∙ ap (option_map (λ x. if 0 + other == number then node else x)) (there site.nodes other down within)
     ∙ ap (λ (n : ℕ). Some (if n == number then node else node_at site other)) (let same : 0 + other ≡ other = omega arith in same))
 
--- an owner behind a takeover
+-- an owner after a takeover
 pub owner_moved : (old new bucket : ℕ) (site : members.Nodes) → bucket < length site.owners → owner_in (with_owner old new site) bucket ≡ (if owner_in site bucket == old then new else owner_in site bucket)
 owner_moved old new bucket site within =
     ap (λ (o : Option ℕ). unwrap_or o (home_node bucket))
     (get_map (λ owner. if owner == old then new else owner) site.owners bucket (owner_in site bucket) (there site.owners bucket (home_node bucket) within))
 
--- an owner behind the returns of a close
+-- an owner after the returns of a close
 pub owner_returned : (needed bucket : ℕ) (site : members.Nodes) → bucket < length site.owners → owner_in (with_returns needed site) bucket ≡ (if returns site needed bucket then home_node bucket else owner_in site bucket)
 owner_returned needed bucket site within =
     ap (λ (o : Option ℕ). unwrap_or o (home_node bucket))
@@ -63,7 +64,7 @@ numbered_count f n (x ∷ xs) = let h = numbered_count f (n + 1) xs in omega (ar
 numbers_long : {X : Type 0} (f : ℕ → X) (first n : ℕ) → length (map f (numbers_from first n)) ≡ n
 numbers_long f first n = length-map (numbers_from first n) f ∙ numbers_count first n
 
--- what stands at a place of a group's list
+-- the item at a place of a group's list
 at_step : {X : Type 0} (f : ℕ → X) (first n k : ℕ) → k < n → slice_get (map f (numbers_from first n)) k ≡ Some (f (first + k))
 at_step f first n k below = get_map f (numbers_from first n) k (first + k) (get_map (λ step. first + step) (numbers_below n) k k (number_at n k below))
 
@@ -100,7 +101,7 @@ share_changed buckets site number node to fits =
         by_same true = refl
         by_same false = refl
 
--- the owners of a group behind a takeover
+-- the owners of a group after a takeover
 pub owners_moved : (old new : ℕ) (site : members.Nodes) (first n : ℕ) → first + n ≤ length site.owners →
     map (λ owner. if owner == old then new else owner) (map (owner_in site) (numbers_from first n)) ≡ map (owner_in (with_owner old new site)) (numbers_from first n)
 owners_moved old new site first n fits =
@@ -178,7 +179,7 @@ none_below : (p : ℕ → Bool) (n : ℕ) → ((k : ℕ) → k < n → p k ≡ f
 none_below p zero none = refl
 none_below p (suc n) none = filter-append p (numbers_below n) (n ∷ []) ∙ ap (λ (xs : List ℕ). xs ++ filter p (n ∷ [])) (none_below p n (λ k below. none k (omega arith))) ∙ rw (none n (omega arith)) refl
 
--- the numbers that pass are all of one group, where no other passes
+-- the numbers that pass are all of one group, if no other passes
 filtered_within : (p : ℕ → Bool) (first n total : ℕ) → first + n ≤ total → ((k : ℕ) → k < first → p k ≡ false) → ((k : ℕ) → first + n ≤ k → k < total → p k ≡ false) →
     filter p (numbers_below total) ≡ filter p (numbers_from first n)
 filtered_within p first n total fits lower upper =

@@ -1,4 +1,4 @@
--- A new group stands for its share of a new site.
+-- A new group represents its share of a new site.
 use Rattle.std.proofs.Common.{◌≡◌, ℕ, zero, suc, ◌+◌, ◌*◌, ◌<◌, ◌≤◌, Bool, true, false, List, [], ◌∷◌, ◌++◌, length, map, refl, sym, ap, subst, ◌∙◌, arith}
 use Rattle.std.specs.Prelude.{if◌then◌else◌, Option, Some, unwrap_or, replicate}
 use Rattle.std.proofs.Math.Nat.{mul-le-mul_right, suc-mul}

@@ -1,4 +1,4 @@
--- What the nodes of a site stand for behind a commit.
+-- What the nodes of a site represent after a commit.
 use Rattle.std.proofs.Common.{◌≡◌, ◌≢◌, ℕ, zero, suc, ◌+◌, ◌*◌, ◌/◌, ◌<◌, ◌≤◌, Bool, true, false, List, [], ◌∷◌, ◌++◌, length, map, get_or, refl, sym, ap, subst, ◌∙◌, inl, inr, arith, append_assoc, length-append, ne_eqb}
 use Rattle.std.specs.Prelude.{◌⊎◌, ◌==◌, ◌||◌, ◌-◌, if◌then◌else◌, Some, None}
 use Rattle.std.specs.List.{AllByRecursion, insert, list_any, remove, slice_get}
@@ -100,14 +100,14 @@ of_no_other site bucket number k groups is differs = none_among (k * site.member
 replaced_length : (groups : List Group) (number : ℕ) (new : Group) → number < length groups → length (insert (remove groups number) number new) ≡ length groups
 replaced_length groups number new within = grind (arith, common_steps)
 
--- as many groups behind a commit
+-- the same number of groups after a commit
 pub groups_stay : (nodes : Nodes) (bucket number : ℕ) (new : Group) (groups : List Group) → CanCommit nodes → bucket < nodes.buckets → number ≡ bucket / nodes.replicas → groups ≡ insert (remove nodes.groups.items number) number new → length groups ≡ length nodes.groups.items
 groups_stay nodes bucket number new groups (buckets, site, held, some, cover, room) below at items =
     let own = held.buckets_are in
     let is = group_of_bucket bucket nodes.replicas (length nodes.groups.items) buckets held.some held.count (omega arith) in
     ap length items ∙ replaced_length nodes.groups.items number new (subst (λ (n : ℕ). n < length nodes.groups.items) (sym at) is.within)
 
--- the groups behind a commit
+-- the groups after a commit
 groups_committed : (buckets : ℕ) (site : Buffered) (groups : List Group) (number bucket : ℕ) (new : Group) (c : Change) →
     IsIn bucket number site.members.replicas (length groups) → bucket ≡ bucket_number c.table c.key buckets →
     GroupsHold buckets site groups → Keeps new (with_part bucket c (share_of buckets site number)) →
@@ -145,7 +145,7 @@ group_there nodes buckets site bucket number group held below at there =
     let is : IsIn bucket number nodes.replicas (length nodes.groups.items) = subst (λ (n : ℕ). IsIn bucket n nodes.replicas (length nodes.groups.items)) (sym at) (group_of_bucket bucket nodes.replicas (length nodes.groups.items) buckets held.some held.count (omega arith)) in
     (subst (GroupHolds buckets site number) (sym there) (held.groups number group is.within), subst (λ (r : ℕ). IsIn bucket number r (length nodes.groups.items)) held.replicas is)
 
--- the nodes behind a commit
+-- the nodes after a commit
 pub nodes_committed : (nodes next : Nodes) (buckets : ℕ) (site : Buffered) (bucket number : ℕ) (old new : Group) (c : Change) →
     HoldsNodes nodes buckets site → bucket < nodes.buckets → bucket ≡ bucket_number c.table c.key nodes.buckets → number ≡ bucket / nodes.replicas →
     old ≡ get_or nodes.groups.items number old →
@@ -180,7 +180,7 @@ share_count buckets site number =
     ∙ length-map (numbers_below site.members.replicas) (λ step. number * site.members.replicas + step)
     ∙ length_numbers site.members.replicas
 
--- a bucket's owner is of the bucket's group, and covers in its share where it does at the site
+-- a bucket's owner is of the bucket's group, and covers in its share if it does at the site
 pub owner_covers : (buckets : ℕ) (site : Buffered) (number bucket groups : ℕ) (group : Group) → GroupHolds buckets site number group → IsIn bucket number site.members.replicas groups → bucket < buckets → OwnersCover buckets site →
     covers_in (share_of buckets site number) (kept_owner (share_of buckets site number) bucket) ≡ true
 owner_covers buckets site number bucket groups group held is below cover =
@@ -232,7 +232,7 @@ group_more buckets site groups group held is = λ k d within. go k d (let n = le
 pub no_groups : (buckets : ℕ) (site : Buffered) → GroupsHold buckets site []
 no_groups buckets site = λ k d within. absurd (omega arith)
 
--- the group that a loop is at, behind those before it
+-- the group that a loop is at, after those before it
 pub whole_more : (all before rest after : List Group) (group : Group) → all ≡ before ++ rest → rest ≡ group ∷ after → all ≡ (before ++ group ∷ []) ++ after
 whole_more all before rest after group whole is = whole ∙ ap (λ (gs : List Group). before ++ gs) is ∙ sym (append_assoc before (group ∷ []) after)
 

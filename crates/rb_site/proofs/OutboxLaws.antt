@@ -57,7 +57,7 @@ same_below n f g (x ∷ xs) all same = rw (same x all.0) (go (g x) (same_below n
     go true q = ap (λ (ys : List ℕ). x ∷ ys) q
     go false q = q
 
--- a test behind a weaker one
+-- a test after a weaker one
 kept_of_kept : (a f g : ℕ → Bool) (xs : List ℕ) → ((x : ℕ) → g x ≡ true → f x ≡ true) → filter g (filter (λ x. a x && f x) xs) ≡ filter (λ x. a x && g x) xs
 kept_of_kept a f g [] within = refl
 kept_of_kept a f g (x ∷ xs) within = go (a x) (f x) (g x) refl refl (kept_of_kept a f g xs within)
@@ -81,7 +81,7 @@ none_removed place test (x ∷ xs) out = go (test x) refl (none_removed place te
         rw other (ap (λ (ys : List ℕ). x ∷ ys) more)
     go false kept more = more
 
--- a key is taken out before or behind a test
+-- a key is taken out before or after a test
 removed_kept : (place : ℕ) (test : ℕ → Bool) (xs : List ℕ) → filter test (remove_key (is_at (nat_cmp place)) xs) ≡ remove_key (is_at (nat_cmp place)) (filter test xs)
 removed_kept place test [] = refl
 removed_kept place test (x ∷ xs) = go (is_at (nat_cmp place) x) (test x) refl refl (removed_kept place test xs)
@@ -103,7 +103,7 @@ removed_below n place (x ∷ xs) all = go (is_at (nat_cmp place) x) (removed_bel
     go true rest = all.1
     go false rest = (all.0, rest)
 
--- where one message more was sent, the places before it are gone as they were
+-- after one more message was sent, the same earlier places are gone
 get_same : (xs ys : List Sent) (k : ℕ) → k < length xs → slice_get (xs ++ ys) k ≡ slice_get xs k
 get_same [] ys k l = absurd (omega arith)
 get_same (x ∷ xs) ys zero l = refl
@@ -146,14 +146,14 @@ below_next : (n : ℕ) (xs : List ℕ) → AllByRecursion (λ k. k < n) xs → A
 below_next n [] all = tt
 below_next n (x ∷ xs) all = let l : x < n = all.0 in (omega arith, below_next n xs all.1)
 
--- what the counts of the nodes say, where they are as they were
+-- what the counts of the nodes say, if they are unchanged
 same_counts : (failed_at : ℕ → ℕ) (old new : List ℕ) → new ≡ old → ((node : ℕ) → node < length old → slice_get old node ≡ Some (failed_at node)) → (node : ℕ) → node < length new → slice_get new node ≡ Some (failed_at node)
 same_counts failed_at old new same were = subst (λ (counts : List ℕ). (node : ℕ) → node < length counts → slice_get counts node ≡ Some (failed_at node)) (sym same) were
 
 same_senders : (sent : List Sent) (old new : List ℕ) → new ≡ old → AllByRecursion (λ (m : Sent). m.sender < length old) sent → AllByRecursion (λ (m : Sent). m.sender < length new) sent
 same_senders sent old new same were = subst (λ (counts : List ℕ). AllByRecursion (λ (m : Sent). m.sender < length counts) sent) (sym same) were
 
--- an outbox in which one message more was sent
+-- an outbox in which one more message was sent
 pub sent_more : (old new : Outbox) (sent : List Sent) (delivered : List ℕ) (failed_at : ℕ → ℕ) (message : Sent) (at : ℕ) → HoldsSent old sent delivered failed_at → at ≡ length old.sent.items →
     message.sender < length old.failed.items → new.sent.items ≡ old.sent.items ++ message ∷ [] → new.waiting.keys ≡ insert_key nat_cmp old.waiting.keys at → new.failed.items ≡ old.failed.items →
     HoldsSent new (sent ++ message ∷ []) delivered failed_at
@@ -237,7 +237,7 @@ same_tests f g (x ∷ xs) same = rw (same x) (go (g x) (same_tests f g xs same))
     go true q = ap (λ (ys : List ℕ). x ∷ ys) q
     go false q = q
 
--- the places that wait behind one more delivery
+-- the places that wait after one more delivery
 pub waiting_without : (failed_at : ℕ → ℕ) (sent : List Sent) (place : ℕ) (delivered : List ℕ) → waiting_places failed_at sent (place ∷ delivered) ≡ remove_key (is_at (nat_cmp place)) (waiting_places failed_at sent delivered)
 waiting_without failed_at sent place delivered =
     let waits : ℕ → Bool = λ x. not (list_any (λ other. other == x) delivered) && not (is_gone failed_at sent x) in
@@ -248,7 +248,7 @@ waiting_without failed_at sent place delivered =
     both true b c = refl
     both false b c = refl
 
--- and where the first of them was delivered
+-- and after the first of them was delivered
 pub waiting_rest : (failed_at : ℕ → ℕ) (sent : List Sent) (place : ℕ) (delivered rest : List ℕ) → waiting_places failed_at sent delivered ≡ place ∷ rest → waiting_places failed_at sent (place ∷ delivered) ≡ rest
 waiting_rest failed_at sent place delivered rest same = waiting_without failed_at sent place delivered ∙ ap (remove_key (is_at (nat_cmp place))) same ∙ first_gone
   where
@@ -300,7 +300,7 @@ dropped_gone old new sent delivered failed_at place held gone items keys failed 
       below = held.below;
     }
 
--- the first key, where its sender did not fail since, is the first place that waits
+-- the first key, if its sender did not fail since, is the first place that waits
 pub first_kept : (outbox : Outbox) (sent : List Sent) (delivered : List ℕ) (failed_at : ℕ → ℕ) (place : ℕ) → HoldsSent outbox sent delivered failed_at → slice_get outbox.waiting.keys 0 ≡ Some place →
     is_gone failed_at sent place ≡ false → Some place ≡ first_of (waiting_places failed_at sent delivered)
 first_kept outbox sent delivered failed_at place held first stays =
@@ -321,7 +321,7 @@ sender_at count (m ∷ sent) zero message all there =
     subst (λ (m : Sent). m.sender < count) same all.0
 sender_at count (m ∷ sent) (suc place) message all there = sender_at count sent place message all.1 there
 
--- a place stays gone where nodes failed later
+-- a place stays gone if nodes failed later
 gone_later : (before after : ℕ → ℕ) (place : ℕ) (found : Option Sent) → ((node : ℕ) → before node ≤ after node) →
     not (option_map_or (λ (m : Sent). nat_lt place (after m.sender)) found false) ≡ true → not (option_map_or (λ (m : Sent). nat_lt place (before m.sender)) found false) ≡ true
 gone_later before after place None later stays = stays

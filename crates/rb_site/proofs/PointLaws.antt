@@ -1,4 +1,5 @@
--- What the nodes of a site are at a point of its run: whose changes can be counted, who owns a bucket, and when each last failed.
+-- What the nodes of a site are at a point of its run: whose changes can be counted, who owns a
+-- bucket, and when each last failed.
 use Rattle.std.proofs.Common.{◌≡◌, ℕ, zero, suc, ◌+◌, ◌*◌, ◌-◌, ◌/◌, ◌<◌, ◌≤◌, Bool, true, false, List, [], ◌∷◌, length, filter, refl, sym, ap, subst, ◌∙◌, arith}
 use Rattle.std.specs.Prelude.{◌==◌, nat_lt, if◌then◌else◌, Option, Some, None, unwrap_or}
 use Rattle.std.specs.List.{AllByRecursion, slice_get}
@@ -9,7 +10,7 @@ use Rattle.std.proofs.lemmas.Nat.{div-mul-add}
 use Rattle.rb_journal_defs.specs.Body.{Shape, numbers_below}
 use Rattle.rb_journal_defs.proofs.Counts.{epoch_length}
 use Rattle.rb_message_defs.specs.Nodes as members
-use Rattle.rb_message_defs.specs.Nodes.{Node, down, node_at, owner_in, covers, numbers_in, group_of, others_behind, successor_of, with_node, with_failure, with_restart}
+use Rattle.rb_message_defs.specs.Nodes.{Node, down, node_at, owner_in, covers, numbers_in, group_of, others_after, successor_of, with_node, with_failure, with_restart}
 use Rattle.rb_message_defs.proofs.Messages.{all_below, all_joined, all_mapped}
 use Rattle.rb_group.specs.Group.{IsNumberOf}
 use Rattle.rb_group.specs.declared.group.Group.{Group}
@@ -33,14 +34,14 @@ can_count shape site seen run held epoch =
     let few = held.few in
     omega arith
 
--- the owners cover at the site where they cover in the run
+-- the owners cover at the site if they cover in the run
 pub cover_at_site : (shape : Shape) (run : Progress) → AllCovered shape.buckets (needed_of shape run) run.nodes → OwnersCover shape.buckets (buffered_by shape run)
 cover_at_site shape run all = subst (λ (needed : ℕ). AllCovered shape.buckets needed run.nodes) (sym (needed_share shape run 0)) all
 
 pub cover_in_run : (shape : Shape) (run : Progress) → OwnersCover shape.buckets (buffered_by shape run) → AllCovered shape.buckets (needed_of shape run) run.nodes
 cover_in_run shape run all = subst (λ (needed : ℕ). AllCovered shape.buckets needed run.nodes) (needed_share shape run 0) all
 
--- there are as many groups as the buckets fill
+-- there are the same number of groups as the buckets fill
 pub groups_are : (nodes : Nodes) (buckets : ℕ) (site : Buffered) → HoldsNodes nodes buckets site → length nodes.groups.items ≡ buckets / site.members.replicas
 groups_are nodes buckets site held =
     let some = held.some in
@@ -131,31 +132,31 @@ successor_below nodes buckets site needed node successor held below is =
     let group = group_of site.members node in
     let there : IsIn node (node / nodes.replicas) nodes.replicas (length nodes.groups.items) = group_of_bucket node nodes.replicas (length nodes.groups.items) buckets held.some held.count below in
     let numbers = numbers_below_all nodes buckets site group held (subst (λ (replicas : ℕ). node / replicas < length nodes.groups.items) held.replicas there.within) in
-    (found_in (λ number. number < buckets) (λ other. covers needed (node_at site.members other)) successor (others_behind site.members node)
+    (found_in (λ number. number < buckets) (λ other. covers needed (node_at site.members other)) successor (others_after site.members node)
     (all_joined (λ number. number < buckets) (filter (nat_lt node) (numbers_in site.members group)) (filter (λ other. nat_lt other node) (numbers_in site.members group))
     (all_filtered (λ number. number < buckets) (nat_lt node) (numbers_in site.members group) numbers)
     (all_filtered (λ number. number < buckets) (λ other. nat_lt other node) (numbers_in site.members group) numbers)) is).0
 
--- where nothing stands
-none_behind : {X : Type 0} (xs : List X) (k : ℕ) → slice_get xs k ≡ None → length xs ≤ k
-none_behind [] k none = omega arith
-none_behind {X} (x ∷ xs) zero none = absurd (let no : Some x ≡ None = none in cc)
-none_behind (x ∷ xs) (suc k) none = let l = none_behind xs k none in omega arith
+-- if there is nothing
+none_after : {X : Type 0} (xs : List X) (k : ℕ) → slice_get xs k ≡ None → length xs ≤ k
+none_after [] k none = omega arith
+none_after {X} (x ∷ xs) zero none = absurd (let no : Some x ≡ None = none in cc)
+none_after (x ∷ xs) (suc k) none = let l = none_after xs k none in omega arith
 
--- the nodes behind the change of one
+-- the nodes after the change of one
 node_changed : (site : members.Nodes) (number : ℕ) (node : Node) (other : ℕ) → number < length site.nodes → node_at (with_node number node site) other ≡ (if other == number then node else node_at site other)
 node_changed site number node other within =
     ap (λ (o : Option Node). unwrap_or o down) (numbered_get (λ numbered. if numbered.0 == number then node else numbered.1) 0 other site.nodes) ∙ go (slice_get site.nodes other) refl
   where
     go : (found : Option Node) → slice_get site.nodes other ≡ found → unwrap_or (option_map (λ x. if 0 + other == number then node else x) found) down ≡ (if other == number then node else unwrap_or found down)
     go None is =
-        let behind = none_behind site.nodes other is in
+        let following = none_after site.nodes other is in
         sym (ap (λ (b : Bool). if b then node else down) (ne_eqb other number (λ same. omega arith)))
     go (Some x) is = ap (λ (k : ℕ). if k == number then node else x) (let same : 0 + other ≡ other = omega arith in same)
 
--- when the nodes last failed, behind a failure and behind a restart
-pub failed_behind : (site : members.Nodes) (number sent : ℕ) (other : ℕ) → number < length site.nodes → (node_at (with_failure number sent site) other).failed_at ≡ (if other == number then sent else (node_at site other).failed_at)
-failed_behind site number sent other within = ap (λ (node : Node). node.failed_at) (node_changed site number (record { up = false; since = 0; failed_at = sent }) other within) ∙ go (other == number)
+-- when the nodes last failed, after a failure and after a restart
+pub failed_after : (site : members.Nodes) (number sent : ℕ) (other : ℕ) → number < length site.nodes → (node_at (with_failure number sent site) other).failed_at ≡ (if other == number then sent else (node_at site other).failed_at)
+failed_after site number sent other within = ap (λ (node : Node). node.failed_at) (node_changed site number (record { up = false; since = 0; failed_at = sent }) other within) ∙ go (other == number)
   where
     go : (b : Bool) → (if b then record { up = false; since = 0; failed_at = sent } else node_at site other).failed_at ≡ (if b then sent else (node_at site other).failed_at)
     go true = refl

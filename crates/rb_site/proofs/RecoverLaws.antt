@@ -1,4 +1,4 @@
--- A site whose injector stopped and begins again.
+-- A site whose injector stopped and restarts.
 use Rattle.std.proofs.Common.{◌≡◌, ℕ, ◌<◌, List, [], ◌++◌, length, refl, sym, ap, subst, ◌∙◌, arith}
 use Rattle.std.specs.Prelude.{true, false, is_some, Option, Some, None}
 use Rattle.std.specs.List.{AllByRecursion}
@@ -38,7 +38,7 @@ pub there_or_none : {X : Type 0} → (found : Option X) → is_some found ≡ fa
 there_or_none None none = refl
 there_or_none (Some x) none = absurd (let no : true ≡ false = none in cc)
 
--- what the owners send again to a new injector
+-- what the owners resend to a new injector
 again_where : (shape : Shape) (run : Progress) (lost : Option (ℕ × ℕ)) → run.lost ≡ lost → sent_to_injector shape run ≡ option_map_or (λ loss. []) lost (sent_by_owners shape run)
 again_where shape run lost is = ap (λ (l : Option (ℕ × ℕ)). option_map_or (λ loss. []) l (sent_by_owners shape run)) is
 
@@ -63,7 +63,7 @@ rest_senders shape rest run messages held sends =
     subst (λ (n : ℕ). AllByRecursion (λ (message : Sent). message.sender < n) messages) (sym held.senders)
     (subst (AllByRecursion (λ (message : Sent). message.sender < shape.buckets)) (sym (resending_is shape rest run messages held sends)) (resend_senders shape run rest.nodes held.nodes))
 
--- all owners sent again
+-- all owners resent
 pub rest_resent : (shape : Shape) (old new : StoppedSite) (run : Progress) (messages : List Sent) → IsStoppedSite shape old run → old.lost ≡ None →
     ((b : ℕ) (s : Buffered) → HoldsNodes old.nodes b s → messages ≡ site.sent_at_resend b s (length old.nodes.groups.items)) →
     ((ss : List Sent) (ds : List ℕ) (fa : ℕ → ℕ) → HoldsSent old.outbox ss ds fa → HoldsSent new.outbox (ss ++ messages) ds fa) →
@@ -92,7 +92,7 @@ rest_resent shape old new run messages held none sends outbox senders rest =
     subst (λ (more : List Sent). IsStoppedSite shape new (record run { sent = run.sent ++ more })) (sym sent)
     (subst (λ (s : StoppedSite). IsStoppedSite shape s after) (sym rest) there)
 
--- the site with its new injector, and the answer
+-- the site with its new injector, and the outcome
 pub site_recovered : (shape : Shape) (old new : StoppedSite) (events : EventBuffer) (its : Injector) (seen : ℕ → List ℕ) (run : Progress) (buckets : ℕ) (written : Epoch) (sent : ℕ) → IsStoppedSite shape old run →
     IsStoppedSite shape new (record run { sent = run.sent ++ sent_to_injector shape run }) → inject.StandsFor its (setup_of shape its) (written_bodies shape run) seen → written.0 ≡ inject.written_of its → buckets ≡ old.nodes.buckets →
     StandsFor events (record { buckets = buckets; last = written.0; received = [] }) → sent ≡ count_in new.outbox →
@@ -153,7 +153,7 @@ pub image_stands : (shape : Shape) (old : Site) (rest : StoppedSite) (tables : L
     inject.StandsFor its (record { site = rest.id; limit = rest.limit; tables = tables }) (written_bodies shape run) now → IsLogImage A (limit_of old) (written_bodies shape run) now
 image_stands shape old rest tables its seen now run is held log = image_left shape old rest seen now run is held (whole_is_image rest.id rest.limit (written_bodies shape run) now log.held)
 
--- as many groups and nodes, and the same limit
+-- the same number of groups and nodes, and the same limit
 pub setup_stays : (old new : Site) (rest : StoppedSite) (its : Injector) → rest ≡ rest_of old → inject.limit_of its ≡ rest.limit → HasSameSetup rest its new → SameSetup old new
 setup_stays old new rest its is limit (groups, replicas, same) = (
   groups ∙ ap (λ (r : StoppedSite). length r.nodes.groups.items) is,

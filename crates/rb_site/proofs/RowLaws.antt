@@ -12,7 +12,7 @@ pub last_end : {X : Type 0} → (d : Option X) (xs : List X) (x : X) → last_or
 last_end d [] x = refl
 last_end d (y ∷ xs) x = last_end (Some y) xs x
 
--- one change more
+-- one more change
 pub row_left_more : (table key : ℕ) (changes : List Change) (change : Change) (row : Option Row) → row_left (of_key table key (changes ++ change ∷ [])) row ≡ (if names_key table key change then row_after change else row_left (of_key table key changes) row)
 row_left_more table key changes change row =
     ap (λ (cs : List Change). row_left cs row) (filter-append (names_key table key) changes (change ∷ []))

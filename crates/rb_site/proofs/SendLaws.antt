@@ -31,7 +31,7 @@ nodes_same nodes buckets site changes same held = record {
       (λ e b. ap (λ (cs : List Change). if list_any (λ other. other == b) (numbers_in site.members k) then in_bucket buckets b cs else []) (same e)) (held.groups k d within);
 }
 
--- one change more behind these
+-- one more change after these
 both_changes : (o e : ℕ) (before cs : List Change) (c : Change) → cond (o == e) (cond (o == e) (before ++ cs) before ++ c ∷ []) (cond (o == e) (before ++ cs) before) ≡ cond (o == e) (before ++ (cs ++ c ∷ [])) before
 both_changes o e before cs c = go (o == e)
   where
@@ -54,7 +54,7 @@ parts_more buckets o earlier (d ∷ cs) c =
 upto_here : (changes : List Change) (i : ℕ) (c : Change) → i < length changes → c ≡ get_or changes i c → take i changes ++ c ∷ [] ≡ take (i + 1) changes
 upto_here changes i c within is = sym (take_more changes i c within ∙ ap (λ (d : Change). take i changes ++ d ∷ []) (sym is))
 
--- the nodes behind the change that a loop is at
+-- the nodes after the change that a loop is at
 pub sent_nodes : (now after : Nodes) (buckets : ℕ) (site : Buffered) (changes : List Change) (i : ℕ) (c : Change) → i < length changes → c ≡ get_or changes i c → HoldsNodes now buckets (with_changes (take i changes) site) →
     ((b : ℕ) (s : Buffered) → HoldsNodes now b s → HoldsNodes after b (with_changes (c ∷ []) s)) → HoldsNodes after buckets (with_changes (take (i + 1) changes) site)
 sent_nodes now after buckets site changes i c within is held step =
@@ -62,7 +62,7 @@ sent_nodes now after buckets site changes i c within is held step =
     (nodes_same after buckets (with_changes (c ∷ []) (with_changes (take i changes) site)) (with_changes (take i changes ++ c ∷ []) site).changes (λ e. both_changes site.opened e (site.changes e) (take i changes) c)
     (step buckets (with_changes (take i changes) site) held))
 
--- the outbox behind it
+-- the outbox after it
 pub sent_outbox : (now : Nodes) (before after : Outbox) (buckets : ℕ) (site : Buffered) (sent : List Sent) (delivered : List ℕ) (failed_at : ℕ → ℕ) (changes : List Change) (i : ℕ) (c : Change) (message : Sent) → i < length changes → c ≡ get_or changes i c → HoldsNodes now buckets (with_changes (take i changes) site) →
     HoldsSent before (sent ++ map (sent_by (owner_in site.members)) (parts_sent buckets site.opened (site.changes site.opened) (take i changes))) delivered failed_at →
     ((b : ℕ) (s : Buffered) → HoldsNodes now b s → message ≡ sent_by (owner_in s.members) (part_message b s.opened (s.changes s.opened) c)) →

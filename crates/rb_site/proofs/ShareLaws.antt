@@ -1,4 +1,5 @@
--- The share of a group says what the run says: the same needed epoch, the same nodes that cover, and the same messages.
+-- The share of a group says what the run says: the same needed epoch, the same nodes that cover,
+-- and the same messages.
 use Rattle.std.proofs.Common.{◌≡◌, ℕ, zero, suc, ◌+◌, ◌*◌, ◌-◌, ◌<◌, ◌≤◌, Bool, true, false, cond, List, [], ◌∷◌, ◌++◌, length, map, filter, refl, sym, ap, ◌∙◌, arith}
 use Rattle.std.specs.Prelude.{◌==◌, ◌&&◌, nat_le, nat_lt, if◌then◌else◌, Option, Some, None, unwrap_or}
 use Rattle.std.specs.Option.{option_map_or}
@@ -59,7 +60,7 @@ keeps_same group kept changes same keeps = record {
   countable = keeps.countable;
 }
 
--- the closed epochs behind a journal's closes
+-- the closed epochs after a journal's closes
 epochs_of_closes : (j : Journal) (es : List ℕ) → map (λ (close : ℕ × ℕ). close.0) (map (λ epoch. (epoch, previous_closed epoch j)) es) ≡ es
 epochs_of_closes j [] = refl
 epochs_of_closes j (e ∷ es) = ap (λ (xs : List ℕ). e ∷ xs) (epochs_of_closes j es)
@@ -117,7 +118,7 @@ get_map f [] k x there = absurd (let g : None ≡ Some x = there in cc)
 get_map f (y ∷ xs) zero x there = ap Some (ap f (let g : Some y ≡ Some x = there in cc))
 get_map f (y ∷ xs) (suc k) x there = get_map f xs k x there
 
--- what stands at the place of a number of a group
+-- the item at the place of a number of a group
 pub at_number : {X : Type 0} (f : ℕ → X) (first n number : ℕ) → first ≤ number → number < first + n → slice_get (map f (map (λ step. first + step) (numbers_below n))) (number - first) ≡ Some (f number)
 at_number f first n number from below =
     let same : first + (number - first) ≡ number = omega arith in

@@ -1,4 +1,4 @@
--- What a site tells of the point of the run that it stands for.
+-- What a site shows of the point of the run that it represents.
 use Rattle.std.proofs.Common.{◌≡◌, ℕ, List, sym, ap, subst, arith}
 use Rattle.rb_base.specs.declared.site.SiteId.{SiteId}
 use Rattle.rb_base.specs.declared.site.SiteId.TheVariants.{A}
@@ -26,7 +26,7 @@ drawn_is shape site seen run held = ap (λ (hand : Hand). hand.drawn) held.clock
 pub opened_is : (shape : Shape) (site : Site) (seen : ℕ → List ℕ) (run : Progress) → IsSite shape site seen run → opened_of site ≡ run.opened
 opened_is shape site seen run held = ap (λ (hand : Hand). hand.opened) held.clock
 
--- what stays of a site where its injector stops
+-- what is left of a site when its injector stops
 pub rest_stands : (shape : Shape) (site : Site) (seen : ℕ → List ℕ) (run : Progress) → IsSite shape site seen run → IsStoppedSite shape (rest_of site) run
 rest_stands shape site seen run held = record {
   declared = held.declared;

@@ -1,4 +1,4 @@
--- What an event does at a site, by what it is, and what a fault leaves where it wrote nothing.
+-- What an event does at a site, by what it is, and what a fault leaves if it wrote nothing.
 use Rattle.std.proofs.Common.{◌≡◌, ℕ, arith, Bool, true, false, List, refl, sym, ap, subst, ◌∙◌}
 use Rattle.std.specs.Prelude.{Result, Ok, Err, IfOk, IfErr, Option, Some, None, if◌then◌else◌}
 use Rattle.std.specs.Option.{option_map_or}
@@ -16,7 +16,7 @@ use Rattle.rb_play_defs.proofs.Grows.{goes_site}
 use Rattle.rb_base.specs.declared.memory.NoMemory.{NoMemory}
 use Rattle.rb_device_defs.specs.Image.{IsLogImage}
 use Rattle.rb_device_defs.proofs.ImageLaws.{whole_is_image}
-use Rattle.rb_play_defs.specs.Part.{HoldsPart}
+use Rattle.rb_play_defs.specs.UnfinishedLog.{HoldsUnfinishedLog}
 use Rattle.rb_site.specs.Site.{IsSite, loss_of, limit_of, needs_all_groups, uses_device}
 use Rattle.rb_site.specs.Stepped.{IfOn, IfStopped, IsStopped, stepped_of}
 use Rattle.rb_site.specs.declared.stepped.Stepped.{Stepped}
@@ -26,27 +26,27 @@ use Rattle.rb_site.specs.declared.site.Loss.{Loss}
 use Rattle.rb_site.specs.declared.site.Site.{Site}
 use Rattle.rb_site.proofs.TakeLaws.{part_of}
 
--- the device is as it was
+-- the device is unchanged
 part_before : (shape : Shape) (site : Site) (seen now : ℕ → List ℕ) (run : Progress) (event : SiteEvent) → IsSite shape site seen run → IsLogImage shape.site (limit_of site) (written_bodies shape run) now →
-    HoldsPart (limit_of site) run.written (written_bodies shape (site_step shape run event).run) now
+    HoldsUnfinishedLog (limit_of site) run.written (written_bodies shape (site_step shape run event).run) now
 part_before shape site seen now run event held image =
     part_of shape run run (written_bodies shape (site_step shape run event).run) (limit_of site) now held.declared.primary held.sound (omega arith) (goes_site shape run event held.sound).grows image
 
 pub part_after : (shape : Shape) (site : Site) (seen now : ℕ → List ℕ) (run : Progress) (event : SiteEvent) → IsSite shape site seen run → IsLogImage A (limit_of site) (written_bodies shape run) now →
-    HoldsPart (limit_of site) run.written (written_bodies shape (site_step shape run event).run) now
+    HoldsUnfinishedLog (limit_of site) run.written (written_bodies shape (site_step shape run event).run) now
 part_after shape site seen now run event held image =
     part_before shape site seen now run event held (subst (λ (id : SiteId). IsLogImage id (limit_of site) (written_bodies shape run) now) (sym held.declared.primary) image)
 
-pub part_unmoved : (shape : Shape) (site : Site) (seen : ℕ → List ℕ) (run : Progress) (event : SiteEvent) → IsSite shape site seen run → HoldsPart (limit_of site) run.written (written_bodies shape (site_step shape run event).run) seen
+pub part_unmoved : (shape : Shape) (site : Site) (seen : ℕ → List ℕ) (run : Progress) (event : SiteEvent) → IsSite shape site seen run → HoldsUnfinishedLog (limit_of site) run.written (written_bodies shape (site_step shape run event).run) seen
 part_unmoved shape site seen run event held = part_before shape site seen seen run event held (whole_is_image shape.site (limit_of site) (written_bodies shape run) seen held.log.held)
 
 -- a step by what its event is
-pub step_is : (shape : Shape) (run : Progress) (event : SiteEvent) (step : play.Stepped) (new : Site) (seen : ℕ → List ℕ) (outcome : Outcome) → site_step shape run event ≡ step → IsSite shape new seen step.run × (outcome ≡ step.outcome) →
+pub step_is : (shape : Shape) (run : Progress) (event : SiteEvent) (step : play.StepResult) (new : Site) (seen : ℕ → List ℕ) (outcome : Outcome) → site_step shape run event ≡ step → IsSite shape new seen step.run × (outcome ≡ step.outcome) →
     IsSite shape new seen (site_step shape run event).run × (outcome ≡ (site_step shape run event).outcome)
-step_is shape run event step new seen outcome is held = subst (λ (s : play.Stepped). IsSite shape new seen s.run × (outcome ≡ s.outcome)) (sym is) held
+step_is shape run event step new seen outcome is held = subst (λ (s : play.StepResult). IsSite shape new seen s.run × (outcome ≡ s.outcome)) (sym is) held
 
 -- without a loss a site refuses no event for one
-not_lost : (run : Progress) (step : play.Stepped) → run.lost ≡ None → unless_lost run step ≡ step
+not_lost : (run : Progress) (step : play.StepResult) → run.lost ≡ None → unless_lost run step ≡ step
 not_lost run step none = ap (λ (lost : Option (ℕ × ℕ)). option_map_or (λ loss. unchanged run (outcomes.SiteLost loss.0 (record { 0 = loss.1 }))) lost step) none
 
 pub is_tx : (shape : Shape) (run : Progress) (event : SiteEvent) (operations : List ClientOp) → event ≡ happenings.Tx operations → run.lost ≡ None → site_step shape run event ≡ tx_step shape operations run
@@ -81,7 +81,7 @@ pub is_resend : (shape : Shape) (run : Progress) (event : SiteEvent) → event �
 unfolding site_step
 is_resend shape run event is none = ap (site_step shape run) is ∙ not_lost run (resend_step shape run) none
 
--- an event that needs all groups finds none lost, where the site refuses it for no loss
+-- an event that needs all groups finds none lost, if the site refuses it for no loss
 pub none_lost : (shape : Shape) (site : Site) (seen : ℕ → List ℕ) (run : Progress) (event same : SiteEvent) → IsSite shape site seen run → event ≡ same → needs_all_groups same ≡ true →
     None ≡ (if needs_all_groups event then site.lost else None) → run.lost ≡ None
 none_lost shape site seen run event same held is needs none =
@@ -90,7 +90,7 @@ none_lost shape site seen run event same held is needs none =
     sym held.lost ∙ ap loss_of here
 
 -- an event at a lost site
-lost_before : (run : Progress) (step : play.Stepped) (group epoch : ℕ) → run.lost ≡ Some (group, epoch) → unless_lost run step ≡ unchanged run (outcomes.SiteLost group (record { 0 = epoch }))
+lost_before : (run : Progress) (step : play.StepResult) (group epoch : ℕ) → run.lost ≡ Some (group, epoch) → unless_lost run step ≡ unchanged run (outcomes.SiteLost group (record { 0 = epoch }))
 lost_before run step group epoch lost = ap (λ (lost : Option (ℕ × ℕ)). option_map_or (λ loss. unchanged run (outcomes.SiteLost loss.0 (record { 0 = loss.1 }))) lost step) lost
 
 refused_where : (shape : Shape) (run : Progress) (event : SiteEvent) (group epoch : ℕ) → needs_all_groups event ≡ true → run.lost ≡ Some (group, epoch) → site_step shape run event ≡ unchanged run (outcomes.SiteLost group (record { 0 = epoch }))
@@ -115,7 +115,7 @@ site_lost shape site seen run event loss held is = go (needs_all_groups event) r
         (refused_where shape run event loss.group loss.epoch.0 needs (sym held.lost ∙ ap loss_of (sym here))) (held, refl)
     go false needs here = absurd (let no : Some loss ≡ None = here in cc)
 
--- what the injector's turn leaves is what its step leaves
+-- what `inject` leaves is what its step leaves
 pub turn_is_step : (shape : Shape) (run : Progress) → (inject_step shape run).run ≡ injected shape run
 unfolding inject_step injection_of
 turn_is_step shape run = refl

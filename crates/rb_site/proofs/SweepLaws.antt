@@ -1,4 +1,5 @@
--- What the nodes of a site stand for behind an event of all groups: a close, a resend, an acknowledgement.
+-- What the nodes of a site represent after an event of all groups: a close, a resend, an
+-- acknowledgement.
 use Rattle.std.proofs.Common.{◌≡◌, ◌≢◌, ◌⊎◌, ℕ, ◌+◌, ◌*◌, ◌<◌, ◌≤◌, Bool, List, [], ◌∷◌, ◌++◌, length, map, set, get_or, sym, ap, subst, ◌∙◌, inl, inr, arith, add-one, length-append}
 use Rattle.std.specs.Prelude.{◌==◌, ◌&&◌, not, if◌then◌else◌}
 use Rattle.std.specs.List.{flat_map}
@@ -23,11 +24,11 @@ use Rattle.rb_site.proofs.NodeLaws.{share_count, owner_covers, group_here, place
 use Rattle.rb_site.proofs.MemberLaws.{owner_returned, numbered_count, group_fits}
 use Rattle.rb_site.proofs.GroupLaws.{share_fits}
 
--- the groups that a loop has not come to are as they were
+-- the groups that a loop has not come to are unchanged
 pub todo_groups : (first now : List Group) (at : ℕ) (new : Group) → ((k : ℕ) (d : Group) → at ≤ k → get_or now k d ≡ get_or first k d) → (k : ℕ) (d : Group) → at + 1 ≤ k → get_or (set now at new) k d ≡ get_or first k d
 todo_groups first now at new todo k d above = get_or-set_other now at k new d (λ same. omega arith) ∙ todo k d (omega arith)
 
--- those that it has come to stand for what they are to
+-- those that it has come to represent what they are to
 pub done_groups : (buckets : ℕ) (site : Buffered) (now : List Group) (at : ℕ) (new : Group) → at < length now → ((k : ℕ) (d : Group) → k < at → GroupHolds buckets site k (get_or now k d)) → GroupHolds buckets site at new →
     (k : ℕ) (d : Group) → k < at + 1 → GroupHolds buckets site k (get_or (set now at new) k d)
 done_groups buckets site now at new within done here k d below = go (eq_or_ne k at)
@@ -42,13 +43,13 @@ pub group_waits : (nodes : Nodes) (buckets : ℕ) (site : Buffered) (now : List 
 group_waits nodes buckets site now at group held within todo there =
     subst (GroupHolds buckets site at) (sym (there ∙ todo at group (omega arith))) (held.groups at group within)
 
--- it can be told of an acknowledgement
+-- it can learn an acknowledgement
 pub can_acknowledge : (nodes : Nodes) (through : ℕ) (now : List Group) (at : ℕ) (group : Group) → CanAcknowledge nodes through → at < length nodes.groups.items →
     ((k : ℕ) (d : Group) → at ≤ k → get_or now k d ≡ get_or nodes.groups.items k d) → group ≡ get_or now at group → called.CanAcknowledge group through
 can_acknowledge nodes through now at group (buckets, site, held, below) within todo there =
     (share_of buckets site at, group_waits nodes buckets site now at group held within todo there, below)
 
--- the nodes behind an acknowledgement
+-- the nodes after an acknowledgement
 pub nodes_acknowledged : (nodes next : Nodes) (buckets : ℕ) (site : Buffered) (through : ℕ) → HoldsNodes nodes buckets site → next.buckets ≡ nodes.buckets → next.replicas ≡ nodes.replicas →
     length next.groups.items ≡ length nodes.groups.items → ((k : ℕ) (d : Group) → k < length next.groups.items → GroupHolds buckets (with_acknowledged through site) k (get_or next.groups.items k d)) →
     HoldsNodes next buckets (with_acknowledged through site)
@@ -62,13 +63,13 @@ nodes_acknowledged nodes next buckets site through held same_buckets same_replic
   groups = groups;
 }
 
--- what is told group by group, with one more
+-- what is made group by group, with one more
 pub told_more : (told : ℕ → List Sent) (n : ℕ) → flat_map told (numbers_below (n + 1)) ≡ flat_map told (numbers_below n) ++ told n
 told_more told n =
     subst (λ (m : ℕ). flat_map told (numbers_below m) ≡ flat_map told (numbers_below n) ++ told n) (sym (add-one n))
     (flat_map-append told (numbers_below n) (n ∷ []) ∙ ap (λ (ss : List Sent). flat_map told (numbers_below n) ++ ss) (append-nil (told n)))
 
--- where each bucket's owner covers at the site it does in its group
+-- a bucket's owner covers at the site if it covers in its group
 pub all_cover : (nodes : Nodes) (buckets : ℕ) (site : Buffered) (number : ℕ) (group : Group) → HoldsNodes nodes buckets site → OwnersCover buckets site → number < length nodes.groups.items → GroupHolds buckets site number group →
     AllCover (share_of buckets site number)
 all_cover nodes buckets site number group held cover within here = λ bucket is.
@@ -78,7 +79,7 @@ all_cover nodes buckets site number group held cover within here = λ bucket is.
     let fits = group_fits number site.members.replicas (length nodes.groups.items) buckets within (ap (λ (r : ℕ). length nodes.groups.items * r) (sym held.replicas) ∙ held.count) in
     owner_covers buckets site number bucket (length nodes.groups.items) group here (record { within = within; from = from; below = omega arith }) (omega arith) cover
 
--- a group can send again what is not acknowledged
+-- a group can resend what is not acknowledged
 pub can_resend : (nodes : Nodes) (number : ℕ) (group : Group) → CanResend nodes → number < length nodes.groups.items → group ≡ get_or nodes.groups.items number group → called.CanResend group
 can_resend nodes number group (buckets, site, held, cover, count) within there =
     let here : GroupHolds buckets site number group = subst (GroupHolds buckets site number) (sym there) (held.groups number group within) in
@@ -100,7 +101,7 @@ can_close_group nodes next before rest after group (buckets, site, held, cover, 
     let here = group_here nodes buckets site before rest after group held whole is in
     (share_of buckets site number, here, all_cover nodes buckets site number group held cover (place_within nodes.groups.items before rest after group whole is) here, share_fits buckets site number count, later)
 
--- the owners of a group behind a close are those of the site behind it
+-- the owners of a group after a close are those of the site after it
 owners_closed : (nodes : Nodes) (buckets : ℕ) (site : Buffered) (prev next number : ℕ) → HoldsNodes nodes buckets site → number < length nodes.groups.items →
     (share.with_close prev next (share_of buckets site number)).owners ≡ (share_of buckets (with_close prev next site) number).owners
 owners_closed nodes buckets site prev next number held within =
@@ -131,7 +132,7 @@ owners_closed nodes buckets site prev next number held within =
         ∙ ap (λ (c : Bool). if not (owner_in site.members bucket == home_node bucket) && c then home_node bucket else owner_in site.members bucket) (covers_share buckets (only_closed prev next site) number bucket (omega arith) (omega arith))
         ∙ sym (owner_returned needed bucket site.members (omega arith))
 
--- a group that closed stands for its share of the site that closed
+-- a group that closed represents its share of the site that closed
 group_closed : (nodes : Nodes) (buckets : ℕ) (site : Buffered) (prev next number : ℕ) (new : Group) → HoldsNodes nodes buckets site → number < length nodes.groups.items →
     Keeps new (share.with_close prev next (share_of buckets site number)) → GroupHolds buckets (with_close prev next site) number new
 group_closed nodes buckets site prev next number new held within keeps =
@@ -160,7 +161,7 @@ close_here nodes buckets site prev next before rest after group so_far more mess
     ∙ sym (told_more (λ n. share.sent_at_close prev next (share_of buckets site n)) (length before))
     ∙ ap (sent_at_close buckets site prev next) (sym (length-append before (group ∷ [])))
 
--- the nodes behind a close
+-- the nodes after a close
 pub nodes_closed : (nodes next : Nodes) (buckets : ℕ) (site : Buffered) (prev opens : ℕ) → HoldsNodes nodes buckets site → next.buckets ≡ nodes.buckets → next.replicas ≡ nodes.replicas →
     length next.groups.items ≡ length nodes.groups.items → GroupsHold buckets (with_close prev opens site) next.groups.items → HoldsNodes next buckets (with_close prev opens site)
 nodes_closed nodes next buckets site prev opens held same_buckets same_replicas count groups = record {

@@ -1,4 +1,4 @@
--- An injector behind an epoch that was taken, and what a fault leaves.
+-- An injector after an epoch that was taken, and what a fault leaves.
 use Rattle.std.proofs.Common.{◌≡◌, ℕ, ◌+◌, ◌<◌, ◌≤◌, Bool, true, false, List, [], ◌∷◌, ◌++◌, length, take, refl, sym, ap, subst, ◌∙◌, arith, inl, inr, length-append}
 use Rattle.std.specs.Prelude.{if◌then◌else◌, None, Option, Some}
 use Rattle.std.specs.List.{last_or}
@@ -23,7 +23,7 @@ use Rattle.rb_inject.specs.Injector.{LeavesImage}
 use Rattle.rb_inject.specs.declared.injector.Injector.{Injector}
 use Rattle.rb_play_defs.specs.Step.{Progress, fed_by, takeable, written_bodies, needed_of, with_taken, injected}
 use Rattle.rb_play_defs.specs.Sound.{IsSound}
-use Rattle.rb_play_defs.specs.Part.{HoldsPart}
+use Rattle.rb_play_defs.specs.UnfinishedLog.{HoldsUnfinishedLog}
 use Rattle.rb_play_defs.proofs.Takes.{sound_taken, injected_more}
 use Rattle.rb_play_defs.proofs.Grows.{Begins, goes_taken}
 use Rattle.rb_play_defs.proofs.Covering.{AllCovered, IsCovered, acknowledged_within, taken_above}
@@ -39,14 +39,14 @@ use Rattle.rb_site.proofs.LogLaws.{log_named, written_epoch, few_changes, few_fi
 needed_same : (shape : Shape) (run : Progress) → needed_by (buffered_by shape run) ≡ needed_of shape run
 needed_same shape run = needed_share shape run 0
 
--- the owners of a site's nodes cover where those of the run do
+-- the owners of a site's nodes cover if those of the run do
 pub owners_covered : (shape : Shape) (run : Progress) → IsCovered shape run → run.lost ≡ None → OwnersCover shape.buckets (buffered_by shape run)
 owners_covered shape run covered none = subst (λ (needed : ℕ). AllCovered shape.buckets needed run.nodes) (sym (needed_same shape run)) (covered none)
 
 pub run_covered : (shape : Shape) (run : Progress) → (run.lost ≡ None → OwnersCover shape.buckets (buffered_by shape run)) → IsCovered shape run
 run_covered shape run covered none = subst (λ (needed : ℕ). AllCovered shape.buckets needed run.nodes) (needed_same shape run) (covered none)
 
--- the bodies behind an epoch that is taken
+-- the bodies after an epoch that is taken
 pub bodies_taken : (shape : Shape) (run : Progress) (e : ℕ) (rest : List ℕ) → IsSound shape run → takeable shape run ≡ e ∷ rest → inject.bodies_with (written_bodies shape run) (body_of shape e run.journal) ≡ written_bodies shape (with_taken shape run e)
 bodies_taken shape run e rest sound front = go (has_something_to_log (body_of shape e run.journal)) refl
   where
@@ -57,7 +57,7 @@ bodies_taken shape run e rest sound front = go (has_something_to_log (body_of sh
     go true some = ap chosen some ∙ sym (bodies_with shape run e rest sound front some)
     go false none = ap chosen none ∙ sym (bodies_without shape run e rest sound front none)
 
--- the injector behind it
+-- the injector after it
 pub injector_took : (shape : Shape) (events new : EventBuffer) (its after : Injector) (seen now : ℕ → List ℕ) (run : Progress) (e : ℕ) (rest : List ℕ) (body : EpochBody) → IsInjectorAt shape events its seen run → takeable shape run ≡ e ∷ rest →
     body ≡ body_of shape e run.journal → StandsFor new (fed_by shape (with_taken shape run e)) →
     inject.StandsFor after (setup_of shape its) (inject.bodies_with (written_bodies shape run) body) now → IsInjectorAt shape new after now (with_taken shape run e)
@@ -77,7 +77,7 @@ injector_same shape events new its seen run held fed = record { declared = held.
 
 -- an image of what a run has written is one of a part of what more is written
 pub part_of : (shape : Shape) (run next : Progress) (whole : List EpochBody) (limit : ℕ) (seen : ℕ → List ℕ) → shape.site ≡ A → IsSound shape next → run.written ≤ next.written → Begins (written_bodies shape next) whole →
-    IsLogImage shape.site limit (written_bodies shape next) seen → HoldsPart limit run.written whole seen
+    IsLogImage shape.site limit (written_bodies shape next) seen → HoldsUnfinishedLog limit run.written whole seen
 part_of shape run next whole limit seen a sound least begins image =
     let n = count_is shape next sound in
     let all : length whole ≡ length (written_bodies shape next) + length begins.rest = ap length begins.whole_is ∙ length-append (written_bodies shape next) begins.rest in
@@ -90,18 +90,18 @@ part_of shape run next whole limit seen a sound least begins image =
       image = subst (λ (site : SiteId). IsLogImage site limit (take next.written whole) seen) a (subst (λ (bs : List EpochBody). IsLogImage shape.site limit bs seen) (sym front) image);
     }
 
--- the turn begins with what is written
+-- `inject` begins with what is written
 pub turn_begins : (shape : Shape) (run : Progress) → IsSound shape run → Begins (written_bodies shape run) (written_bodies shape (injected shape run))
 turn_begins shape run sound = (goes_taken shape run (takeable shape run) sound refl).grows
 
 -- nothing was written
 pub part_same : (shape : Shape) (events : EventBuffer) (its : Injector) (seen now : ℕ → List ℕ) (run : Progress) → IsInjectorAt shape events its seen run → IsLogImage shape.site (inject.limit_of its) (written_bodies shape run) now →
-    HoldsPart (inject.limit_of its) run.written (written_bodies shape (injected shape run)) now
+    HoldsUnfinishedLog (inject.limit_of its) run.written (written_bodies shape (injected shape run)) now
 part_same shape events its seen now run held image = part_of shape run run (written_bodies shape (injected shape run)) (inject.limit_of its) now held.declared.primary held.sound (omega arith) (turn_begins shape run held.sound) image
 
 -- the next body was
 part_next : (shape : Shape) (events : EventBuffer) (its : Injector) (seen now : ℕ → List ℕ) (run : Progress) (e : ℕ) (rest : List ℕ) → IsInjectorAt shape events its seen run → takeable shape run ≡ e ∷ rest →
-    IsLogImage shape.site (inject.limit_of its) (written_bodies shape (with_taken shape run e)) now → HoldsPart (inject.limit_of its) run.written (written_bodies shape (injected shape run)) now
+    IsLogImage shape.site (inject.limit_of its) (written_bodies shape (with_taken shape run e)) now → HoldsUnfinishedLog (inject.limit_of its) run.written (written_bodies shape (injected shape run)) now
 part_next shape events its seen now run e rest held front image =
     let next = with_taken shape run e in
     let sound = sound_taken shape run e rest held.sound front in
@@ -109,9 +109,9 @@ part_next shape events its seen now run e rest held front image =
     (subst (λ (p : Progress). Begins (written_bodies shape next) (written_bodies shape p)) (sym (injected_more shape run e rest held.sound front)) (turn_begins shape next sound)) image
 
 -- files that read the same are the same image
-front_same : (row : Option IndexRow) (files : List (List ℕ)) (seen now : ℕ → List ℕ) → ((file : ℕ) → now file ≡ seen file) → HoldsUpTo row files seen → HoldsUpTo row files now
-front_same None files seen now same held = tt
-front_same (Some row) files seen now same held = record {
+prefix_same : (row : Option IndexRow) (files : List (List ℕ)) (seen now : ℕ → List ℕ) → ((file : ℕ) → now file ≡ seen file) → HoldsUpTo row files seen → HoldsUpTo row files now
+prefix_same None files seen now same held = tt
+prefix_same (Some row) files seen now same held = record {
   before = λ earlier from below. same earlier ∙ held.before earlier from below;
   front = ap (take row.next_position) (same row.next_file) ∙ held.front;
 }
@@ -119,16 +119,16 @@ front_same (Some row) files seen now same held = record {
 pub image_same : (site : SiteId) (limit : ℕ) (bodies : List EpochBody) (seen now : ℕ → List ℕ) → ((file : ℕ) → now file ≡ seen file) → IsLogImage site limit bodies seen → IsLogImage site limit bodies now
 image_same site limit bodies seen now same image = record {
   index = subst (IsIndexImage (index_rows site limit bodies)) (sym (same 0)) image.index;
-  files = front_same (last_or None (index_rows site limit bodies)) (binlog_files site limit bodies) seen now same image.files;
+  files = prefix_same (last_or None (index_rows site limit bodies)) (binlog_files site limit bodies) seen now same image.files;
 }
 
 -- what a fault of a call leaves
 pub part_left : (shape : Shape) (events : EventBuffer) (its : Injector) (seen now : ℕ → List ℕ) (run : Progress) (e : ℕ) (rest : List ℕ) (body : EpochBody) → IsInjectorAt shape events its seen run → takeable shape run ≡ e ∷ rest →
     body ≡ body_of shape e run.journal → (has_something_to_log body ≡ false → (file : ℕ) → now file ≡ seen file) → LeavesImage (setup_of shape its) (written_bodies shape run) body now →
-    HoldsPart (inject.limit_of its) run.written (written_bodies shape (injected shape run)) now
+    HoldsUnfinishedLog (inject.limit_of its) run.written (written_bodies shape (injected shape run)) now
 part_left shape events its seen now run e rest body held front is nothing leaves = go (has_something_to_log body) refl leaves
   where
-    go : (b : Bool) → has_something_to_log body ≡ b → LeavesImage (setup_of shape its) (written_bodies shape run) body now → HoldsPart (inject.limit_of its) run.written (written_bodies shape (injected shape run)) now
+    go : (b : Bool) → has_something_to_log body ≡ b → LeavesImage (setup_of shape its) (written_bodies shape run) body now → HoldsUnfinishedLog (inject.limit_of its) run.written (written_bodies shape (injected shape run)) now
     go b some (inl image) = part_same shape events its seen now run held image
     go true some (inr image) =
         part_next shape events its seen now run e rest held front
@@ -177,7 +177,7 @@ next_logged shape events new its after seen now run assembled logged held next f
 -- and one that fails
 pub next_failed : (shape : Shape) (events : EventBuffer) (its : Injector) (seen now : ℕ → List ℕ) (run : Progress) (assembled : Assembled) → IsInjectorAt shape events its seen run → IsNext shape run assembled →
     (has_something_to_log (inject.body_for its assembled) ≡ false → (file : ℕ) → now file ≡ seen file) → LeavesImage (setup_of shape its) (written_bodies shape run) (body_of_assembled shape.site shape.tables assembled) now →
-    HoldsPart (inject.limit_of its) run.written (written_bodies shape (injected shape run)) now
+    HoldsUnfinishedLog (inject.limit_of its) run.written (written_bodies shape (injected shape run)) now
 next_failed shape events its seen now run assembled held next nothing leaves =
     let there = body_there shape run next.epoch assembled held.declared next.made in
     part_left shape events its seen now run next.epoch next.rest (body_of_assembled shape.site shape.tables assembled) held next.front there

@@ -14,7 +14,7 @@ use Rattle.rb_base.specs.declared.message.Sent.{Sent}
 use Rattle.rb_base.specs.declared.outcome.Outcome.{Outcome}
 use Rattle.rb_journal_defs.specs.Journal.{Client, Journal, Entry, changes_of, of_key, row_left, row_at}
 use Rattle.rb_journal_defs.specs.Body.{Shape, changes_in}
-use Rattle.rb_journal_defs.specs.Transaction.{Refusal, RowTwice, KeyThere, NoKey, is_same_row, refused_over, refusal_behind, first_of, refusal_of, change_over, changes_made}
+use Rattle.rb_journal_defs.specs.Transaction.{Refusal, RowTwice, KeyThere, NoKey, is_same_row, refused_over, refusal_after, first_of, refusal_of, change_over, changes_made}
 use Rattle.rb_journal_defs.proofs.Bodies.{completed_client}
 use Rattle.rb_journal_defs.proofs.Counts.{epoch_length}
 use Rattle.rb_commit.specs.Fault.{fault_of}
@@ -23,7 +23,7 @@ use Rattle.rb_base.specs.declared.outcome.Outcome.TheVariants as outcomes
 use Rattle.rb_message_defs.specs.Message.{parts_sent, sent_by}
 use Rattle.rb_message_defs.specs.Nodes.{owner_in}
 use Rattle.rb_store.specs.Tables.{rows_in, tables_in}
-use Rattle.rb_play_defs.specs.Step.{Progress, Stepped, unchanged, refused, rows_of, tx_changes, committed, commit_outcome, tx_step, fed_by, written_bodies, last_epoch, acknowledged_epoch, failed_in}
+use Rattle.rb_play_defs.specs.Step.{Progress, StepResult, unchanged, refused, rows_of, tx_changes, committed, commit_outcome, tx_step, fed_by, written_bodies, last_epoch, acknowledged_epoch, failed_in}
 use Rattle.rb_play_defs.specs.Fitting.{FitsTables}
 use Rattle.rb_inject.specs.Injector as inject
 use Rattle.rb_inject.specs.declared.injector.Injector.{Injector}
@@ -53,7 +53,7 @@ filter_map_alike {X} {Y} f g (x ∷ xs) same = ap (λ (o : Option Y). cons_optio
 pub refusal_alike : (f g : ℕ → ℕ → Option Row) (operations : List ClientOp) → ((t k : ℕ) → f t k ≡ g t k) → refusal_of f operations ≡ refusal_of g operations
 unfolding refusal_of
 refusal_alike f g operations same =
-    ap first_of (filter_map_alike (λ (numbered : ℕ × ClientOp). refusal_behind f (take numbered.0 operations) numbered.0 numbered.1) (λ (numbered : ℕ × ClientOp). refusal_behind g (take numbered.0 operations) numbered.0 numbered.1) (enumerate_from 0 operations)
+    ap first_of (filter_map_alike (λ (numbered : ℕ × ClientOp). refusal_after f (take numbered.0 operations) numbered.0 numbered.1) (λ (numbered : ℕ × ClientOp). refusal_after g (take numbered.0 operations) numbered.0 numbered.1) (enumerate_from 0 operations)
     (λ numbered. ap (λ (r : Option Row). cond (list_any (is_same_row numbered.1) (take numbered.0 operations)) (Some (RowTwice numbered.0)) (refused_over numbered.0 numbered.1.op r)) (same numbered.1.table numbered.1.key)))
 
 pub changes_alike : (f g : ℕ → ℕ → Option Row) (author transid : ℕ) (operations : List ClientOp) → ((t k : ℕ) → f t k ≡ g t k) → changes_made f author transid operations ≡ changes_made g author transid operations
@@ -67,7 +67,7 @@ pub storable : (tables : List _) (count : ℕ) (changes : List Change) → count
 storable tables count [] same fits = tt
 storable tables count (c ∷ cs) same fits = (record { some = fits.0.declared.0; declared = let d = fits.0.declared.1 in omega arith; keyed = fits.0.after }, storable tables count cs same fits.1)
 
--- a commit's entry behind the changes of its epoch
+-- a commit's entry after the changes of its epoch
 commit_changes : (shape : Shape) (o t e : ℕ) (cs : List Change) (j : Journal) → cond (o == e) (changes_in shape.site e j ++ cs) (changes_in shape.site e j) ≡ changes_in shape.site e (Client o t cs ∷ j)
 commit_changes shape o t e cs j = go (o == e)
   where
@@ -80,7 +80,7 @@ as_many_changes : (rows : ℕ → ℕ → Option Row) (author transid : ℕ) (op
 unfolding changes_made
 as_many_changes rows author transid operations = length-map operations (λ operation. change_over author transid (rows operation.table operation.key) operation)
 
--- the nodes behind a transaction
+-- the nodes after a transaction
 buffered_committed : (shape : Shape) (run : Progress) (operations : List ClientOp) (changes : List Change) → changes ≡ tx_changes shape operations run → written_bodies shape (committed shape operations run) ≡ written_bodies shape run →
     with_changes changes (buffered_by shape run) ≡ buffered_by shape (committed shape operations run)
 buffered_committed shape run operations changes is bodies =
@@ -109,7 +109,7 @@ site_committed shape old new seen run operations changes held fits free is id ma
     let entry = Client run.opened (run.drawn + 1) made_changes in
     let bodies : written_bodies shape (committed shape operations run) ≡ written_bodies shape run =
     ap (take run.written) (completed_client shape run.opened (run.drawn + 1) made_changes run.journal (closed_all_below run.opened run.journal held.sound.order)) in
-    let behind = buffered_committed shape run operations changes is bodies in
+    let following = buffered_committed shape run operations changes is bodies in
     record {
       declared = held.declared;
       sound = sound_commit shape operations run held.sound;
@@ -119,8 +119,8 @@ site_committed shape old new seen run operations changes held fits free is id ma
       clock = clock ∙ ap (λ (hand : Hand). record { opened = hand.opened; previous = hand.previous; drawn = hand.drawn + 1 }) held.clock;
       rows = λ t k. rows t k ∙ ap (row_left (of_key t k changes)) (held.rows t k) ∙ ap (λ (cs : List Change). row_left (of_key t k cs) (row_at shape.site t k run.journal)) is;
       count = count ∙ held.count;
-      nodes = subst (HoldsNodes new.nodes shape.buckets) behind (nodes shape.buckets (buffered_by shape run) held.nodes);
-      covered = λ none. subst (OwnersCover shape.buckets) behind (held.covered none);
+      nodes = subst (HoldsNodes new.nodes shape.buckets) following (nodes shape.buckets (buffered_by shape run) held.nodes);
+      covered = λ none. subst (OwnersCover shape.buckets) following (held.covered none);
       lost = ap loss_of lost ∙ held.lost;
       outbox = subst (λ (cs : List Change). HoldsSent new.outbox (run.sent ++ map (sent_by (owner_in run.nodes)) (parts_sent shape.buckets run.opened (changes_in shape.site run.opened run.journal) cs)) run.delivered (failed_in run)) is
           (outbox shape.buckets (buffered_by shape run) run.sent run.delivered (failed_in run) held.nodes held.outbox);
@@ -156,7 +156,7 @@ can_store shape site seen run operations changes held fits free is =
     storable shape.tables (tables_in site.tables) changes held.count
     (subst (AllByRecursion (FitsTables shape.tables)) (sym is) (changes_fit shape (server_of shape.site) (run.drawn + 1) operations run.journal held.fits fits.fit free))
 
--- the answers of a transaction
+-- the outcomes of a transaction
 pub tx_accepted : (shape : Shape) (operations : List ClientOp) (run : Progress) → refusal_of (rows_of shape run) operations ≡ None → tx_step shape operations run ≡ record { run = committed shape operations run; outcome = commit_outcome (committed shape operations run) }
 unfolding tx_step
 tx_accepted shape operations run free = ap (λ (r : Option Refusal). option_map_or (λ refusal. unchanged run (refused refusal)) r (record { run = committed shape operations run; outcome = commit_outcome (committed shape operations run) })) free
@@ -184,7 +184,7 @@ site_refused shape site seen run operations fault held named = go (refusal_of (r
     go (Some refusal) q =
         let step = tx_refused shape operations run refusal q in
         let is : fault_of refusal ≡ fault = (let g : Some (fault_of refusal) ≡ Some fault = sym (ap (option_map fault_of) (same ∙ q)) ∙ named in cc) in
-        (subst (λ (s : Stepped). IsSite shape site seen s.run) (sym step) held, sym (ap outcome_of_fault is) ∙ fault_outcome refusal ∙ sym (ap (λ (s : Stepped). s.outcome) step))
+        (subst (λ (s : StepResult). IsSite shape site seen s.run) (sym step) held, sym (ap outcome_of_fault is) ∙ fault_outcome refusal ∙ sym (ap (λ (s : StepResult). s.outcome) step))
 
 -- what prepare accepts is what the run accepts
 pub accepted_alike : (shape : Shape) (site : Site) (seen : ℕ → List ℕ) (run : Progress) (operations : List ClientOp) → IsSite shape site seen run → refusal_of (rows_in site.tables) operations ≡ None → refusal_of (rows_of shape run) operations ≡ None
@@ -207,9 +207,9 @@ if_ok_more (Err e) P Q p f = tt
 pub site_accepted : (shape : Shape) (site : Site) (seen : ℕ → List ℕ) (run : Progress) (operations : List ClientOp) (outcome : Outcome) → refusal_of (rows_of shape run) operations ≡ None → IsSite shape site seen (committed shape operations run) × (outcome ≡ commit_outcome (committed shape operations run)) → IsSite shape site seen (tx_step shape operations run).run × (outcome ≡ (tx_step shape operations run).outcome)
 site_accepted shape site seen run operations outcome free held =
     let step = tx_accepted shape operations run free in
-    (subst (λ (s : Stepped). IsSite shape site seen s.run) (sym step) held.0, held.1 ∙ sym (ap (λ (s : Stepped). s.outcome) step))
+    (subst (λ (s : StepResult). IsSite shape site seen s.run) (sym step) held.0, held.1 ∙ sym (ap (λ (s : StepResult). s.outcome) step))
 
--- the answer to an accepted transaction
+-- the outcome of an accepted transaction
 pub outcome_is : (shape : Shape) (new : Site) (seen : ℕ → List ℕ) (run : Progress) (operations : List ClientOp) (transid sent : ℕ) (epoch : Epoch) → IsSite shape new seen (committed shape operations run) → transid ≡ new.clock.drawn → epoch.0 ≡ new.clock.opened → sent ≡ count_in new.outbox → outcomes.Committed transid epoch sent ≡ commit_outcome (committed shape operations run)
 outcome_is shape new seen run operations transid sent epoch held number opens count =
     let t : transid ≡ run.drawn + 1 = number ∙ ap (λ (h : Hand). h.drawn) held.clock in

@@ -1,4 +1,4 @@
--- What an injector with its event buffer stands for.
+-- What an injector with its event buffer represents.
 use Rattle.std.specs.Prelude.{◌≡◌, ℕ, ◌≤◌, Bool, List, [], ◌∷◌, Option, Some, None}
 use Rattle.rb_journal_defs.specs.Body.{Shape, body_of, has_something_to_log}
 use Rattle.rb_evbuf.specs.Buffer as buffer
@@ -10,7 +10,7 @@ use Rattle.rb_play_defs.specs.Sound.{IsSound}
 use Rattle.rb_play_defs.specs.Fitting.{JournalFits}
 use Rattle.rb_site.specs.Site.{AreDeclared, changes_made, most_made, setup_of}
 
--- an event buffer and an injector, over its device, stand for a point of a site's run
+-- an event buffer and an injector, over its device, represent a point of a site's run
 pub record IsInjectorAt (shape : Shape) (events : EventBuffer) (its : Injector) (seen : ℕ → List ℕ) (run : Progress) : Type 0 where
   pub declared : AreDeclared shape
   pub sound : IsSound shape run
@@ -19,7 +19,8 @@ pub record IsInjectorAt (shape : Shape) (events : EventBuffer) (its : Injector) 
   pub fed : buffer.StandsFor events (fed_by shape run)
   pub log : injector.StandsFor its (setup_of shape its) (written_bodies shape run) seen
 
--- no epoch is whole and nothing changed, or the next one was taken, and logged where there is something to log
+-- no epoch is whole and nothing changed; or the next epoch was taken, and logged if it has
+-- something to log
 abbrev pub HasTaken : Shape → Progress → (events : EventBuffer) → Injector → (seen : ℕ → List ℕ) → Option Bool → Type 0
 HasTaken shape run events its seen None = (takeable shape run ≡ []) × IsInjectorAt shape events its seen run
 HasTaken shape run events its seen (Some logged) =

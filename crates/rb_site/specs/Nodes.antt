@@ -1,4 +1,4 @@
--- What the node groups of a site stand for.
+-- What the node groups of a site represent.
 use Rattle.std.specs.Prelude.{◌≡◌, ℕ, ◌+◌, ◌*◌, ◌-◌, ◌^◌, ◌<◌, ◌≤◌, ◌==◌, true, false, if◌then◌else◌, List, [], ◌∷◌, ◌++◌, length, map, nat_lt, get_or, Option, Some, None, unwrap_or}
 use Rattle.std.specs.List.{find, flat_map, list_any}
 use Rattle.rb_base.specs.declared.change.Change.{Change}
@@ -16,8 +16,9 @@ use Rattle.rb_group.specs.declared.answers.GroupFault.{GroupFault}
 use Rattle.rb_group.specs.declared.answers.GroupFault.TheVariants as faults
 use Rattle.rb_site.specs.declared.nodes.Nodes.{Nodes}
 
--- what was done at a site's nodes: the open epoch and the acknowledged one; all changes of each epoch; the closed epochs, each with
--- the one closed before it, the oldest first; and the nodes themselves, with the owners of the buckets
+-- what was done at a site's nodes: the open and the acknowledged epoch; all changes of each epoch;
+-- the closed epochs, each with the one closed before it, the oldest first; and the nodes with the
+-- owners of the buckets
 pub record Buffered : Type 0 where
   pub opened : ℕ
   pub acknowledged : ℕ
@@ -25,20 +26,20 @@ pub record Buffered : Type 0 where
   pub closes : List (ℕ × ℕ)
   pub members : members.Nodes
 
--- the epoch that is needed
+-- the needed epoch
 abbrev pub needed_by : Buffered → ℕ
 needed_by site = unwrap_or (find (nat_lt site.acknowledged) (map (λ close. close.0) site.closes)) site.opened
 
--- from which epoch on a node buffers, where it is up
+-- the first epoch that a node buffers, if it is up
 abbrev pub since_of : Node → Option ℕ
 since_of node = if node.up then Some node.since else None
 
--- what a group keeps of a bucket: its changes, where the bucket is one of the group's
+-- what a group keeps of a bucket: its changes, if the bucket is one of the group's
 abbrev pub kept_in : Buffered → (buckets number epoch bucket : ℕ) → List Change
 kept_in site buckets number epoch bucket =
     if list_any (λ other. other == bucket) (numbers_in site.members number) then in_bucket buckets bucket (site.changes epoch) else []
 
--- the share of the group of this number
+-- the share of group `number`
 abbrev pub share_of : (buckets : ℕ) → Buffered → (number : ℕ) → Kept
 share_of buckets site number = record {
   first = number * site.members.replicas;
@@ -50,15 +51,15 @@ share_of buckets site number = record {
   owners = map (owner_in site.members) (numbers_in site.members number);
 }
 
--- a group stands for its share
+-- a group represents its share
 abbrev pub GroupHolds : (buckets : ℕ) → Buffered → (number : ℕ) → Group → Type 0
 GroupHolds buckets site number group = Keeps group (share_of buckets site number)
 
--- each group does
+-- each group represents its share
 abbrev pub GroupsHold : (buckets : ℕ) → Buffered → List Group → Type 0
 GroupsHold buckets site groups = (k : ℕ) (d : Group) → k < length groups → GroupHolds buckets site k (get_or groups k d)
 
--- the nodes of a site with so many buckets stand for this
+-- the nodes of a site with this many buckets represent what was done
 pub record HoldsNodes (nodes : Nodes) (buckets : ℕ) (site : Buffered) : Type 0 where
   pub buckets_are : nodes.buckets ≡ buckets
   pub replicas : nodes.replicas ≡ site.members.replicas
@@ -72,11 +73,11 @@ pub record HoldsNodes (nodes : Nodes) (buckets : ℕ) (site : Buffered) : Type 0
 abbrev pub OwnersCover : (buckets : ℕ) → Buffered → Type 0
 OwnersCover buckets site = (bucket : ℕ) → bucket < buckets → covers (needed_by site) (node_at site.members (owner_in site.members bucket)) ≡ true
 
--- so many groups of so many nodes each
+-- `groups` groups of `replicas` nodes each
 abbrev pub HasNodes : (groups replicas : ℕ) → Nodes → Type 0
 HasNodes groups replicas nodes = (length nodes.groups.items ≡ groups) × (nodes.replicas ≡ replicas)
 
--- as many groups, of as many nodes each
+-- the same number of groups, of the same number of nodes
 abbrev pub SameGroups : (old new : Nodes) → Type 0
 SameGroups old new = HasNodes (length old.groups.items) old.replicas new
 
@@ -88,25 +89,25 @@ CanCount site = (epoch : ℕ) → length (site.changes epoch) < 2 ^ 32
 abbrev pub nothing_done : (opened : ℕ) → members.Nodes → Buffered
 nothing_done opened nodes = record { opened = opened; acknowledged = 0; changes = λ epoch. []; closes = []; members = nodes }
 
--- more changes of the open epoch
+-- after more changes of the open epoch
 abbrev pub with_changes : List Change → Buffered → Buffered
 with_changes changes site = record site { changes = λ epoch. if site.opened == epoch then site.changes epoch ++ changes else site.changes epoch }
 
--- the open epoch is closed, before which this one was, and the next one opens
+-- after the close of the open epoch, before which `prev` was closed; `next` opens
 abbrev pub only_closed : (prev next : ℕ) → Buffered → Buffered
 only_closed prev next site = record site { opened = next; closes = site.closes ++ (site.opened, prev) ∷ [] }
 
--- the same, with the buckets that return
+-- the same, with the buckets that return to their home nodes
 abbrev pub with_close : (prev next : ℕ) → Buffered → Buffered
 with_close prev next site =
     let after = only_closed prev next site in
     record after { members = members.with_returns (needed_by after) site.members }
 
--- other nodes
+-- with other nodes
 abbrev pub with_members : members.Nodes → Buffered → Buffered
 with_members nodes site = record site { members = nodes }
 
--- all epochs up to one are acknowledged
+-- after all epochs up to one are acknowledged
 abbrev pub with_acknowledged : (through : ℕ) → Buffered → Buffered
 with_acknowledged through site = record site { acknowledged = through }
 
@@ -115,7 +116,7 @@ abbrev pub sent_at_close : (buckets : ℕ) → Buffered → (prev next groups : 
 sent_at_close buckets site prev next groups =
     flat_map (λ number. group.sent_at_close prev next (share_of buckets site number)) (numbers_below groups)
 
--- what the owners send again, group 0 first
+-- what the owners resend, group 0 first
 abbrev pub sent_at_resend : (buckets : ℕ) → Buffered → (groups : ℕ) → List Sent
 sent_at_resend buckets site groups = flat_map (λ number. group.sent_at_resend (share_of buckets site number)) (numbers_below groups)
 
@@ -124,7 +125,7 @@ abbrev pub CanCommit : Nodes → Type 0
 CanCommit nodes =
     (buckets : ℕ) × (site : Buffered) × HoldsNodes nodes buckets site × (0 < buckets) × OwnersCover buckets site × (length (site.changes site.opened) < 2 ^ 32 - 1)
 
--- so many more changes fit
+-- this many more changes fit
 abbrev pub CanSend : Nodes → List Change → Type 0
 CanSend nodes changes =
     (buckets : ℕ) × (site : Buffered) × HoldsNodes nodes buckets site × (0 < buckets) × OwnersCover buckets site
@@ -152,7 +153,8 @@ abbrev pub CanAcknowledge : Nodes → (through : ℕ) → Type 0
 CanAcknowledge nodes through =
     (buckets : ℕ) × (site : Buffered) × HoldsNodes nodes buckets site × (through < site.opened)
 
--- what a failure leaves, when so many messages were sent: a successor took the buckets over, or the group is lost
+-- what a failure leaves, when `sent` messages were sent: a successor took over the buckets, or the
+-- group is lost
 abbrev pub FailsTo : (buckets : ℕ) → Buffered → (node sent : ℕ) → FailOutcome → (new : Nodes) → Type 0
 FailsTo buckets site node sent (outcomes.Takeover count messages) new =
     (successor : ℕ) × (successor_of site.members (needed_by site) node ≡ Some successor) × (count ≡ length (owned_by site.members node))
@@ -168,7 +170,7 @@ FailFault site node (faults.NodeDown other) = (other ≡ node) × ((node_at site
 FailFault site node (faults.NodeUp other) = ⊥
 FailFault site node faults.NoMemory = Unit {0}
 
--- why a node does not start again
+-- why a node does not restart
 abbrev pub RestartFault : Buffered → (node : ℕ) → GroupFault → Type 0
 RestartFault site node (faults.NodeDown other) = ⊥
 RestartFault site node (faults.NodeUp other) = (other ≡ node) × ((node_at site.members node).up ≡ true)

@@ -1,4 +1,4 @@
--- What an outbox stands for.
+-- What an outbox represents.
 use Rattle.std.specs.Prelude.{◌≡◌, ℕ, ◌<◌, ◌≤◌, not, List, filter, length, Some}
 use Rattle.std.specs.List.{AllByRecursion, slice_get}
 use Rattle.rb_base.specs.declared.message.Sent.{Sent}
@@ -7,16 +7,16 @@ use Rattle.rb_site.specs.Nodes.{Buffered, HoldsNodes}
 use Rattle.rb_site.specs.declared.outbox.Outbox.{Outbox}
 use Rattle.rb_site.specs.declared.nodes.Nodes.{Nodes}
 
--- how many nodes send
+-- the number of nodes that send
 abbrev pub nodes_in : Outbox → ℕ
 nodes_in outbox = length outbox.failed.items
 
--- how many messages were sent
+-- the number of messages that were sent
 abbrev pub count_in : Outbox → ℕ
 count_in outbox = length outbox.sent.items
 
--- an outbox in which these messages were sent, of which those at these places were delivered, and whose nodes last failed when
--- so many messages were sent
+-- an outbox in which these messages were sent, and those at these places delivered; each node last
+-- failed when this many messages had been sent
 pub record HoldsSent (outbox : Outbox) (sent : List Sent) (delivered : List ℕ) (failed_at : ℕ → ℕ) : Type 0 where
   pub sent_is : outbox.sent.items ≡ sent
   pub failed_is : (node : ℕ) → node < length outbox.failed.items → slice_get outbox.failed.items node ≡ Some (failed_at node)

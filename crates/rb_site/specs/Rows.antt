@@ -3,7 +3,7 @@ use Rattle.std.specs.Prelude.{◌≡◌, ℕ, ◌≤◌, Some, IfSome}
 use Rattle.rb_base.specs.declared.change.Change.{Change}
 use Rattle.rb_journal_defs.specs.Table.{key_in}
 
--- a change of one of so many tables, whose after image has its key first
+-- a change of one of `tables` tables, whose after image has its key first
 pub record CanBeStored (tables : ℕ) (change : Change) : Type 0 where
   pub some : 1 ≤ change.table
   pub declared : change.table ≤ tables

@@ -1,4 +1,4 @@
--- What a site's value stands for.
+-- What a site's value represents.
 use Rattle.std.specs.Prelude.{◌≡◌, ℕ, ◌+◌, ◌*◌, ◌≤◌, ◌<◌, ◌-◌, ◌/◌, ◌^◌, Bool, true, false, List, length, map, sum_by, Option, Some, None}
 use Rattle.std.specs.List.{AllByRecursion, slice_get}
 use Rattle.std.specs.Option.{option_map, option_and_then}
@@ -36,19 +36,20 @@ pub record IsSmallTable (table : Mapped) : Type 0 where
   pub schema : length table.schema ≡ 2
   pub name : length table.name ≤ 32
 
--- how many changes the clients of a site may make: an epoch of as many of the largest rows can still be logged
+-- the most changes that the clients of a site may make: an epoch of that many of the largest rows
+-- can still be logged
 abbrev pub most_made : ℕ
 most_made = 1000000
 
--- all changes of a site
+-- the number of all changes of a site
 abbrev pub changes_made : Shape → Journal → ℕ
 changes_made shape journal = sum_by (λ entry. length (changes_of shape.site entry)) journal
 
--- the closed epochs of a journal, each with the one that was closed before it
+-- the closed epochs of a journal, each with the one closed before it
 abbrev pub closes_of : Journal → List (ℕ × ℕ)
 closes_of journal = map (λ epoch. (epoch, previous_closed epoch journal)) (closed_epochs journal)
 
--- what was done at the nodes of a site until a point of its run
+-- what was done at the nodes of a site up to a point of its run
 abbrev pub buffered_by : Shape → Progress → Buffered
 buffered_by shape run = record {
   opened = run.opened;
@@ -58,7 +59,7 @@ buffered_by shape run = record {
   members = run.nodes;
 }
 
--- the first group that was lost, with the epoch that was needed then
+-- the first lost group, with the epoch that was needed then
 abbrev pub loss_of : Option Loss → Option (ℕ × ℕ)
 loss_of lost = option_map (λ loss. (loss.group, loss.epoch.0)) lost
 
@@ -69,11 +70,11 @@ pub record AreDeclared (shape : Shape) : Type 0 where
   pub tables : shape.tables ≡ mapped_tables schemas
   pub small : AllByRecursion IsSmallTable shape.tables
 
--- site A with these tables, and so many groups of so many nodes each
+-- site A with these tables, and `groups` groups of `replicas` nodes each
 abbrev pub shape_of : List Schema → (groups replicas : ℕ) → Shape
 shape_of schemas groups replicas = record { site = A; buckets = groups * replicas; tables = mapped_tables schemas }
 
--- the length of its binlog files, in bytes, from which each is rotated
+-- the length of its binlog files at which they are rotated, in bytes
 abbrev pub limit_of : Site → ℕ
 limit_of site = injector.limit_of site.injector
 
@@ -85,7 +86,7 @@ setup_of shape its = record { site = shape.site; limit = injector.limit_of its; 
 abbrev pub log_setup : Shape → Site → LogSetup
 log_setup shape site = setup_of shape site.injector
 
--- a site over its device, whose nodes were told of this acknowledged epoch, stands for a point of a run
+-- a site over its device, whose nodes know this acknowledged epoch, represents a point of a run
 pub record IsSiteAt (acknowledged : ℕ) (shape : Shape) (site : Site) (seen : ℕ → List ℕ) (run : Progress) : Type 0 where
   pub declared : AreDeclared shape
   pub sound : IsSound shape run
@@ -105,31 +106,31 @@ pub record IsSiteAt (acknowledged : ℕ) (shape : Shape) (site : Site) (seen : �
   pub made : site.made ≡ changes_made shape run.journal
   pub few : site.made ≤ most_made
 
--- its nodes were told of the last written one, as they are but for an injector's turn
+-- the same for nodes that know the last written epoch, as they do except within an `inject`
 abbrev pub IsSite : Shape → Site → (seen : ℕ → List ℕ) → Progress → Type 0
 IsSite shape site seen run = IsSiteAt (acknowledged_epoch shape run) shape site seen run
 
--- how many changes a site's clients have made
+-- the number of changes that a site's clients have made
 abbrev pub made_by : Site → ℕ
 made_by site = site.made
 
--- how many transactions it has numbered
+-- the number of its numbered transactions
 abbrev pub drawn_by : Site → ℕ
 drawn_by site = site.clock.drawn
 
--- how many messages its nodes have sent
+-- the number of messages that its nodes have sent
 abbrev pub sent_by_site : Site → ℕ
 sent_by_site site = count_in site.outbox
 
--- how many node groups it has
+-- the number of its node groups
 abbrev pub groups_of : Site → ℕ
 groups_of site = length site.nodes.groups.items
 
--- how many nodes each of them has
+-- the number of nodes in each group
 abbrev pub replicas_of : Site → ℕ
 replicas_of site = site.nodes.replicas
 
--- a site with as many groups, of as many nodes each, and with the same limit
+-- a site with the same numbers of groups and nodes, and with the same limit
 abbrev pub SameSetup : (old new : Site) → Type 0
 SameSetup old new = (groups_of new ≡ groups_of old) × (replicas_of new ≡ replicas_of old) × (limit_of new ≡ limit_of old)
 
@@ -161,7 +162,8 @@ uses_device (events.Restart node) = false
 uses_device events.Resend = false
 uses_device events.Injector = true
 
--- what a client's transaction needs: its operations fit the tables, and there is room for its changes and its number
+-- what a client's transaction needs: its operations fit the tables, and its changes and its number
+-- have room
 pub record TxFits (shape : Shape) (site : Site) (operations : List ClientOp) : Type 0 where
   pub fit : AllByRecursion (OperationFits shape.tables) operations
   pub room : made_by site + length operations ≤ most_made
@@ -179,15 +181,15 @@ EventFits shape site (events.Restart node) = (node < shape.buckets) × (opened_o
 EventFits shape site events.Resend = Unit {0}
 EventFits shape site events.Injector = opened_of site < 2 ^ 64
 
--- a site that can take an event
+-- a site that can play an event
 abbrev pub CanTake : Site → (seen : ℕ → List ℕ) → SiteEvent → Type 0
 CanTake site seen event = (shape : Shape) × (run : Progress) × IsSite shape site seen run × EventFits shape site event
 
--- the buffer of a node, where it is up
+-- the buffer of a node that is up
 abbrev pub buffer_at : Site → (node : ℕ) → Option BucketBuffer
 buffer_at site node = option_and_then (λ group. buffer_of group node) (slice_get site.nodes.groups.items (node / site.nodes.replicas))
 
--- the owner of a bucket is up, and its buffer has all messages of the bucket that are not acknowledged
+-- the owner of a bucket is up, and its buffer has all unacknowledged messages of the bucket
 abbrev pub OwnerHolds : Shape → Site → Progress → (bucket : ℕ) → Type 0
 OwnerHolds shape site run bucket =
     option_map (λ buffer. messages_kept buffer bucket run.opened) (buffer_at site (owner_in run.nodes bucket)) ≡ Some (unacknowledged shape (acknowledged_epoch shape run) run.opened run.journal bucket)

@@ -21,7 +21,7 @@ use Rattle.rb_site.specs.declared.stepped.Stepped.{Stepped}
 use Rattle.rb_site.specs.declared.stepped.Stepped.TheVariants as steps
 use Rattle.rb_site.specs.declared.stepped.StoppedSite.{StoppedSite}
 
--- a site without injector and event buffer stands for a point of a run
+-- a site without injector and event buffer represents a point of a run
 pub record IsStoppedSite (shape : Shape) (site : StoppedSite) (run : Progress) : Type 0 where
   pub declared : AreDeclared shape
   pub sound : IsSound shape run
@@ -63,7 +63,7 @@ rest_of site = record {
   lost = site.lost;
 }
 
--- a site of such a rest
+-- a site of this rest
 abbrev pub site_of : StoppedSite → EventBuffer → Injector → Site
 site_of rest events its = record {
   alloc = rest.alloc;
@@ -84,13 +84,13 @@ abbrev pub stepped_of : Result (Site × Outcome) NoMemory → Stepped
 stepped_of (Ok pair) = steps.On pair.0 pair.1
 stepped_of (Err fault) = steps.NoMemory
 
--- this holds of the site and the answer, where there are both
+-- this holds of the site and the outcome, if there are both
 abbrev pub IfOn : Stepped → (Site → Outcome → Type 0) → Type 0
 IfOn (steps.On site outcome) holds = holds site outcome
 IfOn (steps.Stopped site) holds = ⊤
 IfOn steps.NoMemory holds = ⊤
 
--- this holds of the stopped site, where it is one
+-- this holds of the stopped site, if there is one
 abbrev pub IfStopped : Stepped → (StoppedSite → Type 0) → Type 0
 IfStopped (steps.On site outcome) holds = ⊤
 IfStopped (steps.Stopped site) holds = holds site
@@ -102,13 +102,13 @@ IsStopped (steps.On site outcome) = ⊥
 IsStopped (steps.Stopped site) = Unit {0}
 IsStopped steps.NoMemory = ⊥
 
--- the event was not done to its end
+-- the event did not end
 abbrev pub IsCut : Stepped → Type 0
 IsCut (steps.On site outcome) = ⊥
 IsCut (steps.Stopped site) = Unit {0}
 IsCut steps.NoMemory = Unit {0}
 
--- the device failed only where its count rose
+-- the device failed only if its count of faults rose
 pub record HasStepCause (before now : ℕ) (result : Stepped) : Type 0 where
   pub later : before ≤ now
   pub failed : IsStopped result → Rose before now

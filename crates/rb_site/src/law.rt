@@ -4,9 +4,13 @@ ghost use Rattle.rb_play_defs.specs.Step.{Progress};
 ghost use Rattle.rb_site.specs.Site.{IsSite, OwnerHolds};
 ghost use Rattle.rb_site.specs.declared.site.Site.{Site};
 
-/// At each point of a run without a loss, of each site that stands for it, as those that `create` and `step` answer do: the node
-/// that owns a bucket is up, and its buffer has every message of the bucket that is not acknowledged: of each closed epoch above
-/// the acknowledged one the changes and the end, and of the open epoch the changes. So it can send each of them again.
+/// At each point of a run without a loss, for each site that represents it (as those that `create`
+/// and `step` return do): the node that owns a bucket is up, and its buffer holds every
+/// unacknowledged message of the bucket. These are the changes and the end of each closed epoch
+/// above the acknowledged one, and the changes of the open epoch. So the owner can resend each of
+/// them.
 pub fn owners_hold_what_is_not_acknowledged()
-    ensures { (shape : Shape) (site : Site) (seen : ℕ → List ℕ) (run : Progress) → IsSite shape site seen run → run.lost ≡ None → (bucket : ℕ) → bucket < shape.buckets → OwnerHolds shape site run bucket }
+    ensures { (shape : Shape) (site : Site) (seen : ℕ → List ℕ) (run : Progress) →
+        IsSite shape site seen run → run.lost ≡ None → (bucket : ℕ) → bucket < shape.buckets →
+        OwnerHolds shape site run bucket }
 {}

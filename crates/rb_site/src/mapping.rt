@@ -4,7 +4,7 @@ ghost use Rattle.rb_journal_defs.specs.Body.{mapped_table, mapped_tables};
 use rb_base::{Bytes, Column, Columns, Mapped, MappedTables, NoMemory, Schema};
 use std::alloc::Global;
 
-/// The declared tables, numbered from 1, as the log names them.
+/// Returns the declared tables, numbered from 1, as the log's table maps name them.
 pub(crate) fn map_tables(alloc: Global, schemas: &[Schema]) -> Result<MappedTables, NoMemory>
     requires few { length schemas.now < 2 ^ 16 }
     ensures { IfOk result (λ tables. tables ≡ mapped_tables schemas.now) }
@@ -16,7 +16,7 @@ pub(crate) fn map_tables(alloc: Global, schemas: &[Schema]) -> Result<MappedTabl
     Ok(tables)
 }
 
-/// An equal list of tables.
+/// Returns an equal list of tables.
 pub(crate) fn copy_tables(alloc: Global, tables: &[Mapped]) -> Result<MappedTables, NoMemory>
     ensures { IfOk result (λ copy. copy ≡ tables.now) }
 {
@@ -27,7 +27,8 @@ pub(crate) fn copy_tables(alloc: Global, tables: &[Mapped]) -> Result<MappedTabl
     Ok(copy)
 }
 
-// A table of this number: its schema is `db`, and its key stands before its columns.
+// Returns the table map of table `id`: its schema is `db`, and its key is the column before the
+// declared ones.
 fn map_table(alloc: Global, id: u16, schema: &Schema) -> Result<Mapped, NoMemory>
     ensures { IfOk result (λ table. table ≡ mapped_table (id, schema.now)) }
 {

@@ -14,14 +14,14 @@ use std::alloc::Global;
 pub(crate) struct Nodes {
     alloc: Global,
     groups: Vec<Group>,
-    // The nodes of a group, and its buckets.
+    // Nodes in each group; a group has as many buckets.
     replicas: u32,
-    // Those of all groups.
+    // Buckets of all groups.
     buckets: u32,
 }
 
 impl Nodes {
-    /// So many groups of so many nodes each, which have buffered nothing.
+    /// Returns `groups` groups of `replicas` nodes each, which have buffered nothing.
     pub(crate) fn new(
         alloc: Global,
         groups: u32,
@@ -31,7 +31,9 @@ impl Nodes {
         requires some { 1 ≤ replicas }
         requires fits { groups * replicas < 2 ^ 32 }
         requires opened { opened.0 ≡ first_epoch }
-        ensures holds { IfOk result (λ nodes. HoldsNodes nodes (groups * replicas) (nothing_done opened.0 (nodes_at_first groups replicas))) }
+        ensures holds { IfOk result (λ nodes.
+            HoldsNodes nodes (groups * replicas)
+            (nothing_done opened.0 (nodes_at_first groups replicas))) }
         ensures nodes { IfOk result (HasNodes groups replicas) }
     {
         let mut all = Vec::new(alloc);
@@ -46,13 +48,18 @@ impl Nodes {
         })
     }
 
-    /// Commits a change of the open epoch: the nodes of its bucket's group that buffer this epoch keep it, and what the bucket's
-    /// owner sends is answered. Without memory the nodes are gone.
+    /// Commits a change of the open epoch. The nodes of its bucket's group that buffer this epoch
+    /// keep it. Returns the nodes, and the message that the bucket's owner sends. If memory
+    /// allocation fails, the nodes are gone.
     pub(crate) fn commit(self, change: &Change) -> Result<(Nodes, Sent), NoMemory>
         requires room { CanCommit self }
-        ensures holds { IfOk result (λ pair. (buckets : ℕ) (site : Buffered) → HoldsNodes self buckets site → HoldsNodes pair.0 buckets (with_changes (change.now ∷ []) site)) }
-        ensures sent { IfOk result (λ pair. (buckets : ℕ) (site : Buffered) → HoldsNodes self buckets site →
-            pair.1 ≡ sent_by (owner_in site.members) (part_message buckets site.opened (site.changes site.opened) change.now)) }
+        ensures holds { IfOk result (λ pair. (buckets : ℕ) (site : Buffered) →
+            HoldsNodes self buckets site →
+            HoldsNodes pair.0 buckets (with_changes (change.now ∷ []) site)) }
+        ensures sent { IfOk result (λ pair. (buckets : ℕ) (site : Buffered) →
+            HoldsNodes self buckets site →
+            pair.1 ≡ sent_by (owner_in site.members)
+            (part_message buckets site.opened (site.changes site.opened) change.now)) }
         ensures nodes { IfOk result (λ pair. SameGroups self pair.0) }
     {
         let mut nodes = self;
@@ -64,12 +71,16 @@ impl Nodes {
         Ok((nodes, sent))
     }
 
-    /// Closes the open epoch, before which `prev` was closed, and opens `next`: every node that buffers it notes the close, and
-    /// what the owners send is answered, group 0 first. Without memory the nodes are gone.
+    /// Closes the open epoch and opens `next`; `prev` is the epoch closed before it. Every node
+    /// that buffers the epoch records the close. Returns the nodes, and what the owners send, group
+    /// 0 first. If memory allocation fails, the nodes are gone.
     pub(crate) fn close(self, prev: Epoch, next: Epoch) -> Result<(Nodes, Vec<Sent>), NoMemory>
         requires room { CanCloseAll self next.0 }
-        ensures holds { IfOk result (λ pair. (buckets : ℕ) (site : Buffered) → HoldsNodes self buckets site → HoldsNodes pair.0 buckets (with_close prev.0 next.0 site)) }
-        ensures sent { IfOk result (λ pair. (buckets : ℕ) (site : Buffered) → HoldsNodes self buckets site →
+        ensures holds { IfOk result (λ pair. (buckets : ℕ) (site : Buffered) →
+            HoldsNodes self buckets site →
+            HoldsNodes pair.0 buckets (with_close prev.0 next.0 site)) }
+        ensures sent { IfOk result (λ pair. (buckets : ℕ) (site : Buffered) →
+            HoldsNodes self buckets site →
             pair.1.items ≡ sent_at_close buckets site prev.0 next.0 (length self.groups.items)) }
         ensures nodes { IfOk result (λ pair. SameGroups self pair.0) }
     {
@@ -90,32 +101,44 @@ impl Nodes {
         Ok((nodes, sent))
     }
 
-    /// A node fails: its successor sends what is not acknowledged of its buckets, or the group is lost.
+    /// Fails a node. Its successor resends what is unacknowledged of its buckets, or the group is
+    /// lost.
     pub(crate) fn fail(&mut self, node: u32) -> Result<FailOutcome, GroupFault>
         requires ready { CanFail self.old node }
-        ensures failed { IfOk result (λ outcome. (buckets : ℕ) (site : Buffered) (sent : ℕ) → HoldsNodes self.old buckets site →
-            ((node_at site.members node).up ≡ true) × FailsTo buckets site node sent outcome self.new) }
-        ensures refused { IfErr result (λ fault. (buckets : ℕ) (site : Buffered) → HoldsNodes self.old buckets site → HoldsNodes self.new buckets site × FailFault site node fault) }
+        ensures failed { IfOk result (λ outcome. (buckets : ℕ) (site : Buffered) (sent : ℕ) →
+            HoldsNodes self.old buckets site →
+            ((node_at site.members node).up ≡ true)
+            × FailsTo buckets site node sent outcome self.new) }
+        ensures refused { IfErr result (λ fault. (buckets : ℕ) (site : Buffered) →
+            HoldsNodes self.old buckets site → HoldsNodes self.new buckets site
+            × FailFault site node fault) }
         ensures nodes { SameGroups self.old self.new }
     {
         self.groups[(node / self.replicas) as usize].fail(node)
     }
 
-    /// A node starts again, and buffers from the epoch on that is answered.
+    /// Restarts a node, and returns the first epoch that it buffers.
     pub(crate) fn restart(&mut self, node: u32) -> Result<Epoch, GroupFault>
         requires ready { CanRestart self.old node }
-        ensures restarted { IfOk result (λ since. (buckets : ℕ) (site : Buffered) → HoldsNodes self.old buckets site →
-            (since.0 ≡ site.opened + 1) × ((node_at site.members node).up ≡ false) × HoldsNodes self.new buckets (with_members (with_restart node site.opened site.members) site)) }
-        ensures refused { IfErr result (λ fault. (buckets : ℕ) (site : Buffered) → HoldsNodes self.old buckets site → HoldsNodes self.new buckets site × RestartFault site node fault) }
+        ensures restarted { IfOk result (λ since. (buckets : ℕ) (site : Buffered) →
+            HoldsNodes self.old buckets site →
+            (since.0 ≡ site.opened + 1) × ((node_at site.members node).up ≡ false)
+            × HoldsNodes self.new buckets
+            (with_members (with_restart node site.opened site.members) site)) }
+        ensures refused { IfErr result (λ fault. (buckets : ℕ) (site : Buffered) →
+            HoldsNodes self.old buckets site → HoldsNodes self.new buckets site
+            × RestartFault site node fault) }
         ensures nodes { SameGroups self.old self.new }
     {
         self.groups[(node / self.replicas) as usize].restart(node)
     }
 
-    /// What the owners send again, group 0 first.
+    /// Returns what the owners resend, group 0 first.
     pub(crate) fn resend(&self) -> Result<Vec<Sent>, NoMemory>
         requires ready { CanResend self.now }
-        ensures { IfOk result (λ sent. (buckets : ℕ) (site : Buffered) → HoldsNodes self.now buckets site → sent.items ≡ sent_at_resend buckets site (length self.now.groups.items)) }
+        ensures { IfOk result (λ sent. (buckets : ℕ) (site : Buffered) →
+            HoldsNodes self.now buckets site →
+            sent.items ≡ sent_at_resend buckets site (length self.now.groups.items)) }
     {
         let mut sent = Vec::new(self.alloc);
         for group in &self.groups {
@@ -124,10 +147,12 @@ impl Nodes {
         Ok(sent)
     }
 
-    /// All epochs up to this one are acknowledged, or up to a later one, where that was told before.
+    /// Acknowledges all epochs up to this one. An earlier epoch than the last acknowledged one
+    /// changes nothing.
     pub(crate) fn acknowledge(&mut self, through: Epoch)
         requires ready { CanAcknowledge self.old through.0 }
-        ensures holds { (buckets : ℕ) (site : Buffered) → HoldsNodes self.old buckets site → HoldsNodes self.new buckets (with_acknowledged (max site.acknowledged through.0) site) }
+        ensures holds { (buckets : ℕ) (site : Buffered) → HoldsNodes self.old buckets site →
+            HoldsNodes self.new buckets (with_acknowledged (max site.acknowledged through.0) site) }
         ensures nodes { SameGroups self.old self.new }
     {
         for index in 0..self.groups.len() {
@@ -135,17 +160,18 @@ impl Nodes {
         }
     }
 
-    /// The number of all buckets.
+    /// Returns the number of all buckets.
     pub(crate) fn buckets(&self) -> u32
         ensures { result ≡ self.now.buckets }
     {
         self.buckets
     }
 
-    /// The group of this number, from 0.
+    /// Returns group `number`, counted from 0.
     pub(crate) fn group(&self, number: u32) -> &Group
         requires number { number < length self.now.groups.items }
-        ensures { (buckets : ℕ) (site : Buffered) → HoldsNodes self.now buckets site → GroupHolds buckets site number result.now }
+        ensures { (buckets : ℕ) (site : Buffered) → HoldsNodes self.now buckets site →
+            GroupHolds buckets site number result.now }
     {
         &self.groups[number as usize]
     }

@@ -9,8 +9,9 @@ use rb_base::{Message, NoMemory, Sent};
 use std::alloc::Global;
 use std::collections::BTreeSet;
 
-/// All messages that a site's nodes ever sent, in order, the places of those that were never delivered (but for some whose
-/// sender failed since), and by node how many messages were sent when it last failed, 0 where it never did.
+/// All messages that a site's nodes ever sent, in order; the places of those never delivered,
+/// except some whose sender has failed since; and for each node how many messages had been sent
+/// when it last failed, 0 if it never did.
 #[derive(Drop)]
 pub(crate) struct Outbox {
     alloc: Global,
@@ -20,9 +21,10 @@ pub(crate) struct Outbox {
 }
 
 impl Outbox {
-    /// An outbox of so many nodes, in which nothing was sent.
+    /// Returns an outbox of `nodes` nodes, in which nothing was sent.
     pub(crate) fn new(alloc: Global, nodes: u32) -> Result<Outbox, NoMemory>
-        ensures { IfOk result (λ outbox. HoldsSent outbox [] [] (λ node. 0) × (length outbox.failed.items ≡ nodes)) }
+        ensures { IfOk result (λ outbox. HoldsSent outbox [] [] (λ node. 0)
+            × (length outbox.failed.items ≡ nodes)) }
     {
         let failed = vec![in alloc; 0u64; nodes as usize]?;
         Ok(Outbox {
@@ -33,17 +35,18 @@ impl Outbox {
         })
     }
 
-    /// How many messages were sent.
+    /// Returns how many messages were sent.
     pub(crate) fn len(&self) -> u64
         ensures { result ≡ count_in self.now }
     {
         self.sent.len() as u64
     }
 
-    /// Sends a message. At an `Err` the outbox is of no use any more.
+    /// Sends a message. After an `Err` the outbox must not be used.
     pub(crate) fn send(&mut self, message: Sent) -> Result<(), NoMemory>
         requires sender { message.sender < length self.old.failed.items }
-        ensures sent { OnOk result ((sent : List Sent) (delivered : List ℕ) (failed_at : ℕ → ℕ) → HoldsSent self.old sent delivered failed_at →
+        ensures sent { OnOk result ((sent : List Sent) (delivered : List ℕ) (failed_at : ℕ → ℕ) →
+            HoldsSent self.old sent delivered failed_at →
             HoldsSent self.new (sent ++ message ∷ []) delivered failed_at) }
         ensures nodes { length self.new.failed.items ≡ length self.old.failed.items }
     {
@@ -52,12 +55,14 @@ impl Outbox {
         Ok(())
     }
 
-    /// The first place whose message was never delivered and whose sender did not fail since. Places of failed senders are
-    /// dropped as they come first.
+    /// Returns the first place whose message was never delivered and whose sender has not failed
+    /// since. Drops the places of failed senders that come before it.
     pub(crate) fn first_waiting(&mut self) -> Option<u64>
-        ensures first { (sent : List Sent) (delivered : List ℕ) (failed_at : ℕ → ℕ) → HoldsSent self.old sent delivered failed_at →
+        ensures first { (sent : List Sent) (delivered : List ℕ) (failed_at : ℕ → ℕ) →
+            HoldsSent self.old sent delivered failed_at →
             result ≡ first_of (waiting_places failed_at sent delivered) }
-        ensures holds { (sent : List Sent) (delivered : List ℕ) (failed_at : ℕ → ℕ) → HoldsSent self.old sent delivered failed_at →
+        ensures holds { (sent : List Sent) (delivered : List ℕ) (failed_at : ℕ → ℕ) →
+            HoldsSent self.old sent delivered failed_at →
             HoldsSent self.new sent delivered failed_at }
         ensures sent { self.new.sent ≡ self.old.sent }
         ensures failed { self.new.failed ≡ self.old.failed }
@@ -71,9 +76,10 @@ impl Outbox {
         None
     }
 
-    // The sender of the message at a place failed since.
+    // Returns whether the sender of the message at a place has failed since.
     fn is_gone(&self, place: u64) -> bool
-        ensures { (sent : List Sent) (delivered : List ℕ) (failed_at : ℕ → ℕ) → HoldsSent self.now sent delivered failed_at →
+        ensures { (sent : List Sent) (delivered : List ℕ) (failed_at : ℕ → ℕ) →
+            HoldsSent self.now sent delivered failed_at →
             result ≡ is_gone failed_at sent place }
     {
         let Some(message) = self.sent.get(place as usize) else {
@@ -85,13 +91,16 @@ impl Outbox {
         place < *failed
     }
 
-    /// An equal message to that at a place, which counts as delivered from now on. At an `Err` the outbox is of no use any
-    /// more.
+    /// Returns a copy of the message at a place, and marks it as delivered. After an `Err` the
+    /// outbox must not be used.
     pub(crate) fn deliver(&mut self, place: u64) -> Result<Message, NoMemory>
         requires place { place < count_in self.old }
-        ensures message { IfOk result (λ message. (sent : List Sent) (delivered : List ℕ) (failed_at : ℕ → ℕ) → HoldsSent self.old sent delivered failed_at →
+        ensures message { IfOk result (λ message.
+            (sent : List Sent) (delivered : List ℕ) (failed_at : ℕ → ℕ) →
+            HoldsSent self.old sent delivered failed_at →
             option_map (λ sent. sent.message) (slice_get sent place) ≡ Some message) }
-        ensures delivered { OnOk result ((sent : List Sent) (delivered : List ℕ) (failed_at : ℕ → ℕ) → HoldsSent self.old sent delivered failed_at →
+        ensures delivered { OnOk result ((sent : List Sent) (delivered : List ℕ) (failed_at : ℕ →
+            ℕ) → HoldsSent self.old sent delivered failed_at →
             HoldsSent self.new sent (place ∷ delivered) failed_at) }
         ensures nodes { length self.new.failed.items ≡ length self.old.failed.items }
     {
@@ -99,11 +108,13 @@ impl Outbox {
         self.sent[place as usize].message.copy(self.alloc)
     }
 
-    /// A node fails: what it sent until now is not given any more by `first_waiting`.
+    /// Records that a node failed: `first_waiting` no longer returns what it has sent so far.
     pub(crate) fn node_failed(&mut self, node: u32)
         requires node { node < length self.old.failed.items }
-        ensures failed { (sent : List Sent) (delivered : List ℕ) (failed_at : ℕ → ℕ) → HoldsSent self.old sent delivered failed_at →
-            HoldsSent self.new sent delivered (λ other. if other == node then length sent else failed_at other) }
+        ensures failed { (sent : List Sent) (delivered : List ℕ) (failed_at : ℕ → ℕ) →
+            HoldsSent self.old sent delivered failed_at →
+            HoldsSent self.new sent delivered
+            (λ other. if other == node then length sent else failed_at other) }
         ensures nodes { length self.new.failed.items ≡ length self.old.failed.items }
     {
         self.failed[node as usize] = self.sent.len() as u64;

@@ -8,7 +8,7 @@ use rb_base::{Change, Epoch, Kind, NoMemory};
 use rb_store::{Held, Tables};
 use std::alloc::Global;
 
-/// Stores changes in the tables, in order. At an `Err` some of them are.
+/// Stores changes in the tables, in order. After an `Err` only some of them are stored.
 pub(crate) fn store(
     alloc: Global,
     tables: &mut Tables,
@@ -16,7 +16,9 @@ pub(crate) fn store(
     epoch: Epoch,
 ) -> Result<(), NoMemory>
     requires storable { AllByRecursion (CanBeStored (tables_in tables.old)) changes.now }
-    ensures rows { OnOk result ((table key : ℕ) → rows_in tables.new table key ≡ row_left (of_key table key changes.now) (rows_in tables.old table key)) }
+    ensures rows { OnOk result ((table key : ℕ) →
+        rows_in tables.new table key
+        ≡ row_left (of_key table key changes.now) (rows_in tables.old table key)) }
     ensures count { tables_in tables.new ≡ tables_in tables.old }
 {
     for change in changes {
@@ -33,7 +35,10 @@ fn store_change(
     epoch: Epoch,
 ) -> Result<(), NoMemory>
     requires storable { CanBeStored (tables_in tables.old) change.now }
-    ensures rows { OnOk result ((table key : ℕ) → rows_in tables.new table key ≡ (if names_key table key change.now then row_after change.now else rows_in tables.old table key)) }
+    ensures rows { OnOk result ((table key : ℕ) →
+        rows_in tables.new table key
+        ≡ (if names_key table key change.now then row_after change.now else rows_in tables.old table
+        key)) }
     ensures count { tables_in tables.new ≡ tables_in tables.old }
 {
     tables.reserve(change.table, &[change.key])?;

@@ -10,8 +10,8 @@ use crate::nodes::Nodes;
 use crate::outbox::Outbox;
 use rb_base::{Change, NoMemory, Sent};
 
-/// Sends the changes of a transaction: the nodes of a change's group that buffer the open epoch keep it, and the bucket's owner
-/// sends it. At an `Err` the outbox is of no use any more.
+/// Sends the changes of a transaction. The nodes of a change's group that buffer the open epoch
+/// keep it, and the bucket's owner sends it. After an `Err` the outbox must not be used.
 pub(crate) fn send_parts(
     nodes: Nodes,
     outbox: &mut Outbox,
@@ -19,9 +19,14 @@ pub(crate) fn send_parts(
 ) -> Result<Nodes, NoMemory>
     requires room { CanSend nodes changes.now }
     requires owners { OwnersIn nodes outbox.old }
-    ensures holds { IfOk result (λ after. (buckets : ℕ) (site : Buffered) → HoldsNodes nodes buckets site → HoldsNodes after buckets (with_changes changes.now site)) }
-    ensures sent { IfOk result (λ after. (buckets : ℕ) (site : Buffered) (sent : List Sent) (delivered : List ℕ) (failed_at : ℕ → ℕ) → HoldsNodes nodes buckets site → HoldsSent outbox.old sent delivered failed_at →
-        HoldsSent outbox.new (sent ++ map (sent_by (owner_in site.members)) (parts_sent buckets site.opened (site.changes site.opened) changes.now)) delivered failed_at) }
+    ensures holds { IfOk result (λ after. (buckets : ℕ) (site : Buffered) →
+        HoldsNodes nodes buckets site → HoldsNodes after buckets (with_changes changes.now site)) }
+    ensures sent { IfOk result (λ after.
+        (buckets : ℕ) (site : Buffered) (sent : List Sent) (delivered : List ℕ) (failed_at : ℕ →
+        ℕ) → HoldsNodes nodes buckets site → HoldsSent outbox.old sent delivered failed_at →
+        HoldsSent outbox.new (sent ++ map (sent_by (owner_in site.members))
+        (parts_sent buckets site.opened (site.changes site.opened) changes.now)) delivered
+        failed_at) }
     ensures senders { OnOk result (nodes_in outbox.new ≡ nodes_in outbox.old) }
     ensures nodes { IfOk result (λ after. SameGroups nodes after) }
 {
@@ -36,8 +41,11 @@ pub(crate) fn send_parts(
 
 /// Sends messages, in order.
 pub(crate) fn send_all(outbox: &mut Outbox, messages: Vec<Sent>) -> Result<(), NoMemory>
-    requires senders { AllByRecursion (λ message. message.sender < nodes_in outbox.old) messages.items }
-    ensures sent { OnOk result ((sent : List Sent) (delivered : List ℕ) (failed_at : ℕ → ℕ) → HoldsSent outbox.old sent delivered failed_at → HoldsSent outbox.new (sent ++ messages.items) delivered failed_at) }
+    requires senders { AllByRecursion
+        (λ message. message.sender < nodes_in outbox.old) messages.items }
+    ensures sent { OnOk result ((sent : List Sent) (delivered : List ℕ) (failed_at : ℕ → ℕ) →
+        HoldsSent outbox.old sent delivered failed_at →
+        HoldsSent outbox.new (sent ++ messages.items) delivered failed_at) }
     ensures nodes { OnOk result (nodes_in outbox.new ≡ nodes_in outbox.old) }
 {
     for message in messages {

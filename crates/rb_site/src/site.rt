@@ -12,7 +12,7 @@ ghost use Rattle.rb_journal_defs.specs.Journal.{row_at};
 ghost use Rattle.rb_journal_defs.specs.Transaction.{refusal_of};
 ghost use Rattle.rb_site.specs.Nodes.{GroupHolds};
 ghost use Rattle.rb_journal_defs.specs.Body.{Shape};
-ghost use Rattle.rb_play_defs.specs.Part.{HoldsPart};
+ghost use Rattle.rb_play_defs.specs.UnfinishedLog.{HoldsUnfinishedLog};
 ghost use Rattle.rb_play_defs.specs.Step.{Progress, fed_by, beginning, rows_of, tx_changes, committed, commit_outcome, tx_step, close_step, deliver_step, deliver_all_step, injected, inject_step, injector_step, takeable, worth_logging, site_step, written_bodies, fail_step, restart_step, resend_step, answer_outcome as outcome_of_answer};
 ghost use Rattle.rb_inject.specs.Injector as inject;
 ghost use Rattle.rb_inject.specs.Injector.{IsLimit};
@@ -24,8 +24,8 @@ use crate::outbox::Outbox;
 use crate::rows::store;
 use crate::sending::{send_all, send_parts};
 use crate::stepped::{Stepped, StoppedSite, step_of};
+use crate::taking::{TakenEpochs, take_epochs};
 use crate::tally::Tally;
-use crate::turn::{Turn, take_turn};
 use rb_base::{
     Changes, ClientOps, Epoch, MappedTables, NoMemory, Outcome, Schema, SiteId, SiteSetup,
 };
@@ -39,15 +39,15 @@ use rb_play_defs::SiteEvent;
 use rb_store::Tables;
 use std::alloc::Global;
 
-/// A group that was lost.
+/// A lost node group.
 #[derive(Clone, Copy, Debug)]
 pub(crate) struct Loss {
     pub(crate) group: u32,
-    /// The epoch that was needed then.
+    /// The epoch that was needed when it was lost.
     pub(crate) epoch: Epoch,
 }
 
-/// One site within a run.
+/// One site of a run.
 #[derive(Drop)]
 pub struct Site {
     alloc: Global,
@@ -71,8 +71,9 @@ impl Site {
     ghost use Rattle.rb_site.specs.Inject.{IsInjectorAt};
     ghost use Rattle.rb_site.specs.Stepped.{IsStoppedSite, HasSameSetup, rest_of, site_of, IfOn, IfStopped, IsCut, HasStepCause};
 
-    /// Site A with these tables, so many node groups of so many nodes each, and binlog files of this limit, on an empty device: the
-    /// injector gets a log without an epoch. `NotEmpty` names the lowest file that is not empty, and leaves the device as it was.
+    /// Creates site A on an empty device, with these tables, `groups` groups of `replicas` nodes
+    /// each, and binlog files of this limit. The injector begins a log without an epoch. `NotEmpty`
+    /// names the lowest file that is not empty, and leaves the device unchanged.
     pub fn create<D: LogDisk>(
         alloc: Global,
         schemas: &[Schema],
@@ -84,13 +85,20 @@ impl Site {
         requires few { setup.groups * setup.replicas < 2 ^ 32 }
         requires tables { length schemas.now < 2 ^ 16 }
         requires limit { IsLimit setup.limit }
-        ensures begun { IfOk result (λ site. IsSite (shape_of schemas.now setup.groups setup.replicas) site (D.seen disk.new) (beginning setup.groups setup.replicas)) }
-        ensures nodes { IfOk result (λ site. (groups_of site ≡ setup.groups) × (replicas_of site ≡ setup.replicas) × (limit_of site ≡ setup.limit)) }
-        ensures not_empty { (file size : ℕ) → result ≡ Err (InjectFault.NotEmpty file size) → IsLowestFile file size (D.seen disk.old) }
-        ensures refused { (file size : ℕ) → IsLowestFile file size (D.seen disk.old) → IsNotEmpty result }
-        ensures untouched { IsNotEmpty result → (file : ℕ) → D.seen disk.new file ≡ D.seen disk.old file }
+        ensures begun { IfOk result (λ site.
+            IsSite (shape_of schemas.now setup.groups setup.replicas) site (D.seen disk.new)
+            (beginning setup.groups setup.replicas)) }
+        ensures nodes { IfOk result (λ site. (groups_of site ≡ setup.groups)
+            × (replicas_of site ≡ setup.replicas) × (limit_of site ≡ setup.limit)) }
+        ensures not_empty { (file size : ℕ) → result ≡ Err (InjectFault.NotEmpty file size) →
+            IsLowestFile file size (D.seen disk.old) }
+        ensures refused { (file size : ℕ) → IsLowestFile file size (D.seen disk.old) →
+            IsNotEmpty result }
+        ensures untouched { IsNotEmpty result → (file : ℕ) →
+            D.seen disk.new file ≡ D.seen disk.old file }
         ensures no_size { IsTooLarge result → ⊥ }
-        ensures stopped { OnErr result (((file : ℕ) → D.seen disk.old file ≡ []) → IsLogImage A setup.limit [] (D.seen disk.new)) }
+        ensures stopped { OnErr result (((file : ℕ) → D.seen disk.old file ≡ []) →
+            IsLogImage A setup.limit [] (D.seen disk.new)) }
         ensures cause { HasInjectCause (D.fault_count disk.old) (D.fault_count disk.new) result }
     {
         if let Some((file, length)) = lowest_file(disk) {
@@ -103,17 +111,23 @@ impl Site {
         Ok(Site::of(rest, events, injector))
     }
 
-    /// One event, and its answer. The device is touched at the injector's events alone, and at its fault they leave the rest of the
-    /// site, which is as it was before the event.
+    /// Plays one event, and returns the site after it with its outcome. Only the events of the
+    /// injector touch the device. If the device fails, the result is the rest of the site,
+    /// unchanged.
     pub fn step<D: LogDisk>(self, event: &SiteEvent, disk: &mut D) -> Stepped
         requires fits { CanTake self (D.seen disk.old) event.now }
-        ensures stepped { IfOn result (λ site outcome. (shape : Shape) (run : Progress) → IsSite shape self (D.seen disk.old) run → EventFits shape self event.now →
-            IsSite shape site (D.seen disk.new) (site_step shape run event.now).run × (outcome ≡ (site_step shape run event.now).outcome)) }
+        ensures stepped { IfOn result (λ site outcome. (shape : Shape) (run : Progress) →
+            IsSite shape self (D.seen disk.old) run → EventFits shape self event.now →
+            IsSite shape site (D.seen disk.new) (site_step shape run event.now).run
+            × (outcome ≡ (site_step shape run event.now).outcome)) }
         ensures nodes { IfOn result (λ site outcome. SameSetup self site) }
-        ensures stays { IfStopped result (λ stopped. (shape : Shape) (run : Progress) → IsSite shape self (D.seen disk.old) run → IsStoppedSite shape stopped run) }
+        ensures stays { IfStopped result (λ stopped. (shape : Shape) (run : Progress) →
+            IsSite shape self (D.seen disk.old) run → IsStoppedSite shape stopped run) }
         ensures rest { IfStopped result (λ stopped. stopped ≡ rest_of self) }
-        ensures part { IsCut result → (shape : Shape) (run : Progress) → IsSite shape self (D.seen disk.old) run →
-            HoldsPart (limit_of self) run.written (written_bodies shape (site_step shape run event.now).run) (D.seen disk.new) }
+        ensures part { IsCut result → (shape : Shape) (run : Progress) →
+            IsSite shape self (D.seen disk.old) run →
+            HoldsUnfinishedLog (limit_of self) run.written
+            (written_bodies shape (site_step shape run event.now).run) (D.seen disk.new) }
         ensures cause { HasStepCause (D.fault_count disk.old) (D.fault_count disk.new) result }
     {
         match event {
@@ -123,61 +137,75 @@ impl Site {
         }
     }
 
-    /// The node group of this number. The numbers begin at 0. It takes no memory.
+    /// Returns node group `number`, counted from 0. Allocates nothing.
     pub fn group(&self, number: u32) -> &Group
         requires number { number < groups_of self.now }
-        ensures { (shape : Shape) (seen : ℕ → List ℕ) (run : Progress) → IsSite shape self.now seen run →
+        ensures { (shape : Shape) (seen : ℕ → List ℕ) (run : Progress) →
+            IsSite shape self.now seen run →
             GroupHolds shape.buckets (buffered_by shape run) number result.now }
     {
         self.nodes.group(number)
     }
 
-    /// The injector's event buffer. It takes no memory.
+    /// Returns the injector's event buffer. Allocates nothing.
     pub fn event_buffer(&self) -> &EventBuffer
-        ensures { (shape : Shape) (seen : ℕ → List ℕ) (run : Progress) → IsSite shape self.now seen run → StandsFor result.now (fed_by shape run) }
+        ensures { (shape : Shape) (seen : ℕ → List ℕ) (run : Progress) →
+            IsSite shape self.now seen run → StandsFor result.now (fed_by shape run) }
     {
         &self.events
     }
 
-    /// How many messages its nodes have sent. It takes no memory.
+    /// Returns how many messages its nodes have sent. Allocates nothing.
     pub fn sent_len(&self) -> u64
-        ensures { (shape : Shape) (seen : ℕ → List ℕ) (run : Progress) → IsSite shape self.now seen run → result ≡ length run.sent }
+        ensures { (shape : Shape) (seen : ℕ → List ℕ) (run : Progress) →
+            IsSite shape self.now seen run → result ≡ length run.sent }
     {
         self.outbox.len()
     }
 
-    /// Its tables. It takes no memory.
+    /// Returns its tables. Allocates nothing.
     pub fn tables(&self) -> &Tables
-        ensures { (shape : Shape) (seen : ℕ → List ℕ) (run : Progress) → IsSite shape self.now seen run →
-            (table key : ℕ) → rows_in result.now table key ≡ row_at shape.site table key run.journal }
+        ensures { (shape : Shape) (seen : ℕ → List ℕ) (run : Progress) →
+            IsSite shape self.now seen run →
+            (table key : ℕ) → rows_in result.now table key
+            ≡ row_at shape.site table key run.journal }
     {
         &self.tables
     }
 
-    /// Its open epoch. It takes no memory.
+    /// Returns its open epoch. Allocates nothing.
     pub fn open(&self) -> Epoch
-        ensures { (shape : Shape) (seen : ℕ → List ℕ) (run : Progress) → IsSite shape self.now seen run → result.0 ≡ run.opened }
+        ensures { (shape : Shape) (seen : ℕ → List ℕ) (run : Progress) →
+            IsSite shape self.now seen run → result.0 ≡ run.opened }
     {
         self.clock.open()
     }
 
-    /// The index of its log. It takes no memory.
+    /// Returns the index of its log. Allocates nothing.
     pub fn index(&self) -> &EpochIndex
-        ensures { (shape : Shape) (seen : ℕ → List ℕ) (run : Progress) → IsSite shape self.now seen run → result.now ≡ index_rows shape.site (limit_of self.now) (written_bodies shape run) }
+        ensures { (shape : Shape) (seen : ℕ → List ℕ) (run : Progress) →
+            IsSite shape self.now seen run →
+            result.now ≡ index_rows shape.site (limit_of self.now) (written_bodies shape run) }
     {
         self.injector.index()
     }
 
-    /// The number of its last binlog file. It takes no memory.
+    /// Returns the number of its last binlog file. Allocates nothing.
     pub fn last_file(&self) -> u32
-        ensures { (shape : Shape) (seen : ℕ → List ℕ) (run : Progress) → IsSite shape self.now seen run → result ≡ length (binlog_files shape.site (limit_of self.now) (written_bodies shape run)) }
+        ensures { (shape : Shape) (seen : ℕ → List ℕ) (run : Progress) →
+            IsSite shape self.now seen run →
+            result ≡ length (binlog_files shape.site (limit_of self.now)
+            (written_bodies shape run)) }
     {
         self.injector.last_file()
     }
 
-    /// The first group that was lost, with the epoch that was needed then, or `None` where none was. It takes no memory.
+    /// Returns the first lost group with the epoch that was needed then; `None` if no group was
+    /// lost. Allocates nothing.
     pub fn lost(&self) -> Option<(u32, Epoch)>
-        ensures { (shape : Shape) (seen : ℕ → List ℕ) (run : Progress) → IsSite shape self.now seen run → option_map (λ loss. (loss.0, loss.1.0)) result ≡ run.lost }
+        ensures { (shape : Shape) (seen : ℕ → List ℕ) (run : Progress) →
+            IsSite shape self.now seen run →
+            option_map (λ loss. (loss.0, loss.1.0)) result ≡ run.lost }
     {
         match self.lost {
             Some(Loss { group, epoch }) => Some((group, epoch)),
@@ -185,7 +213,7 @@ impl Site {
         }
     }
 
-    // The loss for which an event is refused, where it is.
+    // Returns the loss that refuses an event, if one does.
     fn loss_against(&self, event: &SiteEvent) -> Option<Loss>
         ensures { result ≡ (if needs_all_groups event.now then self.now.lost else None) }
     {
@@ -198,7 +226,7 @@ impl Site {
         }
     }
 
-    // A site of these parts.
+    // Returns a site of these parts.
     fn of(rest: StoppedSite, events: EventBuffer, injector: Injector) -> Site
         ensures { result ≡ site_of rest events injector }
     {
@@ -217,7 +245,7 @@ impl Site {
         }
     }
 
-    // These parts of a site.
+    // Takes a site apart into these parts.
     fn apart(self) -> (StoppedSite, EventBuffer, Injector)
         ensures rest { result.0 ≡ rest_of self }
         ensures events { result.1 ≡ self.events }
@@ -238,12 +266,14 @@ impl Site {
         (rest, self.events, self.injector)
     }
 
-    // An event that does not touch the device.
+    // Plays an event that does not touch the device.
     fn step_inside(self, event: &SiteEvent) -> Result<(Site, Outcome), NoMemory>
         requires inside { uses_device event.now ≡ false }
         requires fits { (seen : ℕ → List ℕ) × CanTake self seen event.now }
-        ensures stepped { IfOk result (λ pair. (shape : Shape) (seen : ℕ → List ℕ) (run : Progress) → IsSite shape self seen run → EventFits shape self event.now →
-            IsSite shape pair.0 seen (site_step shape run event.now).run × (pair.1 ≡ (site_step shape run event.now).outcome)) }
+        ensures stepped { IfOk result (λ pair. (shape : Shape) (seen : ℕ →
+            List ℕ) (run : Progress) → IsSite shape self seen run → EventFits shape self event.now →
+            IsSite shape pair.0 seen (site_step shape run event.now).run
+            × (pair.1 ≡ (site_step shape run event.now).outcome)) }
         ensures nodes { IfOk result (λ pair. SameSetup self pair.0) }
     {
         if let Some(Loss { group, epoch }) = self.loss_against(event) {
@@ -262,11 +292,15 @@ impl Site {
         }
     }
 
-    // A client's transaction: refused, with nothing changed, or accepted.
+    // Plays a client's transaction: it is refused and changes nothing, or it is accepted.
     fn transact(self, operations: &ClientOps) -> Result<(Site, Outcome), NoMemory>
-        requires fits { (seen : ℕ → List ℕ) × (shape : Shape) × (run : Progress) × IsSite shape self seen run × (run.lost ≡ None) × TxFits shape self operations.now }
-        ensures stepped { IfOk result (λ pair. (shape : Shape) (seen : ℕ → List ℕ) (run : Progress) → IsSite shape self seen run → TxFits shape self operations.now →
-            IsSite shape pair.0 seen (tx_step shape operations.now run).run × (pair.1 ≡ (tx_step shape operations.now run).outcome)) }
+        requires fits { (seen : ℕ → List ℕ) × (shape : Shape) × (run : Progress)
+            × IsSite shape self seen run × (run.lost ≡ None) × TxFits shape self operations.now }
+        ensures stepped { IfOk result (λ pair. (shape : Shape) (seen : ℕ →
+            List ℕ) (run : Progress) → IsSite shape self seen run →
+            TxFits shape self operations.now →
+            IsSite shape pair.0 seen (tx_step shape operations.now run).run
+            × (pair.1 ≡ (tx_step shape operations.now run).outcome)) }
         ensures nodes { IfOk result (λ pair. SameSetup self pair.0) }
     {
         let Some(transid) = self.clock.next_transid() else {
@@ -289,13 +323,20 @@ impl Site {
         }
     }
 
-    // Accepts the changes of a transaction: they are numbered, buffered, sent and stored.
+    // Accepts the changes of a transaction: numbers, buffers, sends and stores them.
     fn commit(self, changes: Changes) -> Result<(Site, Outcome), NoMemory>
-        requires accepted { (seen : ℕ → List ℕ) × (shape : Shape) × (run : Progress) × (operations : List ClientOp) × IsSite shape self seen run × (run.lost ≡ None) × TxFits shape self operations
-            × (refusal_of (rows_of shape run) operations ≡ None) × (changes ≡ tx_changes shape operations run) }
-        ensures committed { IfOk result (λ pair. (shape : Shape) (seen : ℕ → List ℕ) (run : Progress) (operations : List ClientOp) → IsSite shape self seen run → TxFits shape self operations →
-            refusal_of (rows_of shape run) operations ≡ None → changes ≡ tx_changes shape operations run →
-            IsSite shape pair.0 seen (committed shape operations run) × (pair.1 ≡ commit_outcome (committed shape operations run))) }
+        requires accepted { (seen : ℕ → List ℕ) × (shape : Shape) × (run : Progress)
+            × (operations : List ClientOp) × IsSite shape self seen run × (run.lost ≡ None)
+            × TxFits shape self operations
+            × (refusal_of (rows_of shape run) operations ≡ None)
+            × (changes ≡ tx_changes shape operations run) }
+        ensures committed { IfOk result (λ pair. (shape : Shape) (seen : ℕ →
+            List ℕ) (run : Progress) (operations : List ClientOp) → IsSite shape self seen run →
+            TxFits shape self operations →
+            refusal_of (rows_of shape run) operations ≡ None →
+            changes ≡ tx_changes shape operations run →
+            IsSite shape pair.0 seen (committed shape operations run)
+            × (pair.1 ≡ commit_outcome (committed shape operations run))) }
         ensures nodes { IfOk result (λ pair. SameSetup self pair.0) }
     {
         let mut site = self;
@@ -318,11 +359,14 @@ impl Site {
         ))
     }
 
-    // The open epoch closes: the nodes tell the ends of their parts, and the next epoch opens.
+    // Closes the open epoch: the owners send their Dones, and the next epoch opens.
     fn close(self, gci: bool) -> Result<(Site, Outcome), NoMemory>
-        requires fits { (seen : ℕ → List ℕ) × (shape : Shape) × (run : Progress) × IsSite shape self seen run × (run.lost ≡ None) × (opened_of self + 2 ^ 32 < 2 ^ 64) }
-        ensures closed { IfOk result (λ pair. (shape : Shape) (seen : ℕ → List ℕ) (run : Progress) → IsSite shape self seen run →
-            IsSite shape pair.0 seen (close_step shape gci run).run × (pair.1 ≡ (close_step shape gci run).outcome)) }
+        requires fits { (seen : ℕ → List ℕ) × (shape : Shape) × (run : Progress)
+            × IsSite shape self seen run × (run.lost ≡ None) × (opened_of self + 2 ^ 32 < 2 ^ 64) }
+        ensures closed { IfOk result (λ pair. (shape : Shape) (seen : ℕ → List ℕ) (run : Progress) →
+            IsSite shape self seen run →
+            IsSite shape pair.0 seen (close_step shape gci run).run
+            × (pair.1 ≡ (close_step shape gci run).outcome)) }
         ensures nodes { IfOk result (λ pair. SameSetup self pair.0) }
     {
         let mut site = self;
@@ -337,11 +381,15 @@ impl Site {
         Ok((site, Outcome::Closed { epoch, sent }))
     }
 
-    // A node fails, where it is up: the next one of its group that covers takes its buckets over, or the group is lost.
+    // Fails a node that is up: the next node of its group that covers takes over its buckets, or
+    // the group is lost.
     fn fail(self, node: u32) -> Result<(Site, Outcome), NoMemory>
-        requires fits { (seen : ℕ → List ℕ) × (shape : Shape) × (run : Progress) × IsSite shape self seen run × (run.lost ≡ None) × (node < shape.buckets) }
-        ensures failed { IfOk result (λ pair. (shape : Shape) (seen : ℕ → List ℕ) (run : Progress) → IsSite shape self seen run → run.lost ≡ None →
-            IsSite shape pair.0 seen (fail_step shape node run).run × (pair.1 ≡ (fail_step shape node run).outcome)) }
+        requires fits { (seen : ℕ → List ℕ) × (shape : Shape) × (run : Progress)
+            × IsSite shape self seen run × (run.lost ≡ None) × (node < shape.buckets) }
+        ensures failed { IfOk result (λ pair. (shape : Shape) (seen : ℕ → List ℕ) (run : Progress) →
+            IsSite shape self seen run → run.lost ≡ None →
+            IsSite shape pair.0 seen (fail_step shape node run).run
+            × (pair.1 ≡ (fail_step shape node run).outcome)) }
         ensures nodes { IfOk result (λ pair. SameSetup self pair.0) }
     {
         let mut site = self;
@@ -364,11 +412,15 @@ impl Site {
         Ok((site, outcome))
     }
 
-    // A node starts again, where it is down.
+    // Restarts a node that is down.
     fn restart(self, node: u32) -> Result<(Site, Outcome), NoMemory>
-        requires fits { (seen : ℕ → List ℕ) × (shape : Shape) × (run : Progress) × IsSite shape self seen run × (run.lost ≡ None) × (node < shape.buckets) × (opened_of self + 1 < 2 ^ 64) }
-        ensures restarted { IfOk result (λ pair. (shape : Shape) (seen : ℕ → List ℕ) (run : Progress) → IsSite shape self seen run → run.lost ≡ None →
-            IsSite shape pair.0 seen (restart_step node run).run × (pair.1 ≡ (restart_step node run).outcome)) }
+        requires fits { (seen : ℕ → List ℕ) × (shape : Shape) × (run : Progress)
+            × IsSite shape self seen run × (run.lost ≡ None) × (node < shape.buckets)
+            × (opened_of self + 1 < 2 ^ 64) }
+        ensures restarted { IfOk result (λ pair. (shape : Shape) (seen : ℕ →
+            List ℕ) (run : Progress) → IsSite shape self seen run → run.lost ≡ None →
+            IsSite shape pair.0 seen (restart_step node run).run
+            × (pair.1 ≡ (restart_step node run).outcome)) }
         ensures nodes { IfOk result (λ pair. SameSetup self pair.0) }
     {
         let mut site = self;
@@ -381,11 +433,14 @@ impl Site {
         Ok((site, outcome))
     }
 
-    // Each owner sends again what is not acknowledged of its buckets.
+    // Has each owner resend what is unacknowledged of its buckets.
     fn resend(self) -> Result<(Site, Outcome), NoMemory>
-        requires fits { (seen : ℕ → List ℕ) × (shape : Shape) × (run : Progress) × IsSite shape self seen run × (run.lost ≡ None) }
-        ensures resent { IfOk result (λ pair. (shape : Shape) (seen : ℕ → List ℕ) (run : Progress) → IsSite shape self seen run → run.lost ≡ None →
-            IsSite shape pair.0 seen (resend_step shape run).run × (pair.1 ≡ (resend_step shape run).outcome)) }
+        requires fits { (seen : ℕ → List ℕ) × (shape : Shape) × (run : Progress)
+            × IsSite shape self seen run × (run.lost ≡ None) }
+        ensures resent { IfOk result (λ pair. (shape : Shape) (seen : ℕ → List ℕ) (run : Progress) →
+            IsSite shape self seen run → run.lost ≡ None →
+            IsSite shape pair.0 seen (resend_step shape run).run
+            × (pair.1 ≡ (resend_step shape run).outcome)) }
         ensures nodes { IfOk result (λ pair. SameSetup self pair.0) }
     {
         let mut site = self;
@@ -395,11 +450,14 @@ impl Site {
         Ok((site, Outcome::Resent { sent }))
     }
 
-    // The message at a place reaches the event buffer, where there is one.
+    // Delivers the message at a place to the event buffer, if there is one.
     fn deliver(self, place: u64) -> Result<(Site, Outcome), NoMemory>
-        requires fits { (seen : ℕ → List ℕ) × (shape : Shape) × (run : Progress) × IsSite shape self seen run }
-        ensures delivered { IfOk result (λ pair. (shape : Shape) (seen : ℕ → List ℕ) (run : Progress) → IsSite shape self seen run →
-            IsSite shape pair.0 seen (deliver_step shape place run).run × (pair.1 ≡ (deliver_step shape place run).outcome)) }
+        requires fits { (seen : ℕ → List ℕ) × (shape : Shape) × (run : Progress)
+            × IsSite shape self seen run }
+        ensures delivered { IfOk result (λ pair. (shape : Shape) (seen : ℕ →
+            List ℕ) (run : Progress) → IsSite shape self seen run →
+            IsSite shape pair.0 seen (deliver_step shape place run).run
+            × (pair.1 ≡ (deliver_step shape place run).outcome)) }
         ensures nodes { IfOk result (λ pair. SameSetup self pair.0) }
     {
         let mut site = self;
@@ -411,11 +469,15 @@ impl Site {
         Ok((site, answer_outcome(answer)))
     }
 
-    // Each message that was never delivered, and whose sender did not fail since, reaches the event buffer, in order.
+    // Delivers to the event buffer, in order, each message that was never delivered and whose
+    // sender has not failed since.
     fn deliver_all(self) -> Result<(Site, Outcome), NoMemory>
-        requires fits { (seen : ℕ → List ℕ) × (shape : Shape) × (run : Progress) × IsSite shape self seen run }
-        ensures delivered { IfOk result (λ pair. (shape : Shape) (seen : ℕ → List ℕ) (run : Progress) → IsSite shape self seen run →
-            IsSite shape pair.0 seen (deliver_all_step shape run).run × (pair.1 ≡ (deliver_all_step shape run).outcome)) }
+        requires fits { (seen : ℕ → List ℕ) × (shape : Shape) × (run : Progress)
+            × IsSite shape self seen run }
+        ensures delivered { IfOk result (λ pair. (shape : Shape) (seen : ℕ →
+            List ℕ) (run : Progress) → IsSite shape self seen run →
+            IsSite shape pair.0 seen (deliver_all_step shape run).run
+            × (pair.1 ≡ (deliver_all_step shape run).outcome)) }
         ensures nodes { IfOk result (λ pair. SameSetup self pair.0) }
     {
         let mut site = self;
@@ -427,33 +489,42 @@ impl Site {
         Ok((site, tally.outcome()))
     }
 
-    // The message at a place reaches the event buffer.
+    // Delivers the message at a place to the event buffer.
     fn receive(&mut self, place: u64) -> Result<Received, NoMemory>
-        requires fits { (seen : ℕ → List ℕ) × (shape : Shape) × (run : Progress) × IsSite shape self.old seen run }
+        requires fits { (seen : ℕ → List ℕ) × (shape : Shape) × (run : Progress)
+            × IsSite shape self.old seen run }
         requires place { place < sent_by_site self.old }
-        ensures received { IfOk result (λ answer. (shape : Shape) (seen : ℕ → List ℕ) (run : Progress) → IsSite shape self.old seen run →
-            IsSite shape self.new seen (deliver_step shape place run).run × (outcome_of_answer answer ≡ (deliver_step shape place run).outcome)) }
+        ensures received { IfOk result (λ answer. (shape : Shape) (seen : ℕ →
+            List ℕ) (run : Progress) → IsSite shape self.old seen run →
+            IsSite shape self.new seen (deliver_step shape place run).run
+            × (outcome_of_answer answer ≡ (deliver_step shape place run).outcome)) }
         ensures nodes { SameSetup self.old self.new }
     {
         let message = self.outbox.deliver(place)?;
         self.events.receive(message)
     }
 
-    // The injector takes every whole epoch, logs those that have something to log, and tells the nodes of the last written one.
+    // Plays `inject`: the injector takes the epochs up to the first one that is not whole, logs
+    // those that have something to log, and acknowledges the last written one to the nodes.
     fn inject<D: LogDisk>(self, disk: &mut D) -> Stepped
-        requires fits { (shape : Shape) × (run : Progress) × IsSite shape self (D.seen disk.old) run }
-        ensures injected { IfOn result (λ site outcome. (shape : Shape) (run : Progress) → IsSite shape self (D.seen disk.old) run →
-            IsSite shape site (D.seen disk.new) (inject_step shape run).run × (outcome ≡ (inject_step shape run).outcome)) }
+        requires fits { (shape : Shape) × (run : Progress)
+            × IsSite shape self (D.seen disk.old) run }
+        ensures injected { IfOn result (λ site outcome. (shape : Shape) (run : Progress) →
+            IsSite shape self (D.seen disk.old) run →
+            IsSite shape site (D.seen disk.new) (inject_step shape run).run
+            × (outcome ≡ (inject_step shape run).outcome)) }
         ensures nodes { IfOn result (λ site outcome. SameSetup self site) }
         ensures stays { IfStopped result (λ stopped. stopped ≡ rest_of self) }
-        ensures part { IsCut result → (shape : Shape) (run : Progress) → IsSite shape self (D.seen disk.old) run →
-            HoldsPart (limit_of self) run.written (written_bodies shape (injected shape run)) (D.seen disk.new) }
+        ensures part { IsCut result → (shape : Shape) (run : Progress) →
+            IsSite shape self (D.seen disk.old) run →
+            HoldsUnfinishedLog (limit_of self) run.written
+            (written_bodies shape (injected shape run)) (D.seen disk.new) }
         ensures cause { HasStepCause (D.fault_count disk.old) (D.fault_count disk.new) result }
     {
         let (rest, events, injector) = self.apart();
-        match take_turn(events, injector, disk) {
+        match take_epochs(events, injector, disk) {
             Ok(turn) => {
-                let (site, outcome) = Site::behind(rest, turn);
+                let (site, outcome) = Site::following(rest, turn);
                 Stepped::On(site, outcome)
             }
             Err(DiskLogFault::DiskFault) => Stepped::Stopped(rest),
@@ -461,14 +532,21 @@ impl Site {
         }
     }
 
-    // The site behind its injector's turn: only what is synced may be released.
-    fn behind(rest: StoppedSite, turn: Turn) -> (Site, Outcome)
-        requires fits { (shape : Shape) × (seen : ℕ → List ℕ) × (run : Progress) × IsStoppedSite shape rest run × IsInjectorAt shape turn.events turn.injector seen (injected shape run) }
-        ensures injected { (shape : Shape) (seen : ℕ → List ℕ) (run : Progress) → IsStoppedSite shape rest run → IsInjectorAt shape turn.events turn.injector seen (injected shape run) →
-            turn.count ≡ length (worth_logging shape run.journal (takeable shape run)) → IsSite shape result.0 seen (inject_step shape run).run × (result.1 ≡ (inject_step shape run).outcome) }
+    // Returns the site after `inject`. The nodes may release only what is synced, so they learn the
+    // last written epoch here.
+    fn following(rest: StoppedSite, turn: TakenEpochs) -> (Site, Outcome)
+        requires fits { (shape : Shape) × (seen : ℕ → List ℕ) × (run : Progress)
+            × IsStoppedSite shape rest run
+            × IsInjectorAt shape turn.events turn.injector seen (injected shape run) }
+        ensures injected { (shape : Shape) (seen : ℕ → List ℕ) (run : Progress) →
+            IsStoppedSite shape rest run →
+            IsInjectorAt shape turn.events turn.injector seen (injected shape run) →
+            turn.count ≡ length (worth_logging shape run.journal (takeable shape run)) →
+            IsSite shape result.0 seen (inject_step shape run).run
+            × (result.1 ≡ (inject_step shape run).outcome) }
         ensures nodes { HasSameSetup rest turn.injector result.0 }
     {
-        let Turn {
+        let TakenEpochs {
             events,
             injector,
             count,
@@ -490,14 +568,18 @@ impl Site {
         (site, outcome)
     }
 
-    // The injector stopped, and its log is opened again.
+    // Plays `injector`: the injector stopped, and recovers its log from the device.
     fn begin_again<D: LogDisk>(self, disk: &mut D) -> Stepped
-        requires fits { (shape : Shape) × (run : Progress) × IsSite shape self (D.seen disk.old) run × (opened_of self < 2 ^ 64) }
-        ensures recovered { IfOn result (λ site outcome. (shape : Shape) (run : Progress) → IsSite shape self (D.seen disk.old) run → opened_of self < 2 ^ 64 →
-            IsSite shape site (D.seen disk.new) (injector_step shape run).run × (outcome ≡ (injector_step shape run).outcome)) }
+        requires fits { (shape : Shape) × (run : Progress) × IsSite shape self (D.seen disk.old) run
+            × (opened_of self < 2 ^ 64) }
+        ensures recovered { IfOn result (λ site outcome. (shape : Shape) (run : Progress) →
+            IsSite shape self (D.seen disk.old) run → opened_of self < 2 ^ 64 →
+            IsSite shape site (D.seen disk.new) (injector_step shape run).run
+            × (outcome ≡ (injector_step shape run).outcome)) }
         ensures nodes { IfOn result (λ site outcome. SameSetup self site) }
         ensures stays { IfStopped result (λ stopped. stopped ≡ rest_of self) }
-        ensures part { IsCut result → (shape : Shape) (run : Progress) → IsSite shape self (D.seen disk.old) run → opened_of self < 2 ^ 64 →
+        ensures part { IsCut result → (shape : Shape) (run : Progress) →
+            IsSite shape self (D.seen disk.old) run → opened_of self < 2 ^ 64 →
             IsLogImage A (limit_of self) (written_bodies shape run) (D.seen disk.new) }
         ensures cause { HasStepCause (D.fault_count disk.old) (D.fault_count disk.new) result }
     {
@@ -512,11 +594,17 @@ impl Site {
         }
     }
 
-    // A site with a new injector: its event buffer is empty and waits behind the last written epoch, and the owners send again.
+    // Returns a site with a new injector. Its event buffer is empty and waits for the epoch after
+    // the last written one, and the owners resend.
     fn with_new(rest: StoppedSite, injector: Injector) -> Result<(Site, Outcome), NoMemory>
-        requires fits { (shape : Shape) × (seen : ℕ → List ℕ) × (run : Progress) × IsStoppedSite shape rest run × inject.StandsFor injector (setup_of shape injector) (written_bodies shape run) seen }
-        ensures recovered { IfOk result (λ pair. (shape : Shape) (seen : ℕ → List ℕ) (run : Progress) → IsStoppedSite shape rest run → inject.StandsFor injector (setup_of shape injector) (written_bodies shape run) seen →
-            IsSite shape pair.0 seen (injector_step shape run).run × (pair.1 ≡ (injector_step shape run).outcome)) }
+        requires fits { (shape : Shape) × (seen : ℕ → List ℕ) × (run : Progress)
+            × IsStoppedSite shape rest run
+            × inject.StandsFor injector (setup_of shape injector) (written_bodies shape run) seen }
+        ensures recovered { IfOk result (λ pair. (shape : Shape) (seen : ℕ →
+            List ℕ) (run : Progress) → IsStoppedSite shape rest run →
+            inject.StandsFor injector (setup_of shape injector) (written_bodies shape run) seen →
+            IsSite shape pair.0 seen (injector_step shape run).run
+            × (pair.1 ≡ (injector_step shape run).outcome)) }
         ensures nodes { IfOk result (λ pair. HasSameSetup rest injector pair.0) }
     {
         let written = injector.written();
@@ -529,7 +617,7 @@ impl Site {
     }
 }
 
-// The answer to a refused transaction.
+// Returns the outcome of a refused transaction.
 fn refused(fault: TxFault) -> Result<Outcome, NoMemory>
     ensures outcome { IfOk result (λ outcome. outcome ≡ outcome_of_fault fault) }
     ensures refused { OnOk result (fault ≢ TxFault.NoMemory) }
@@ -542,7 +630,7 @@ fn refused(fault: TxFault) -> Result<Outcome, NoMemory>
     }
 }
 
-// The answer to a delivery.
+// Returns the outcome of a delivery.
 fn answer_outcome(answer: Received) -> Outcome
     ensures { result ≡ outcome_of_answer answer }
 {

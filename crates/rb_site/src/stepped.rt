@@ -18,16 +18,17 @@ use std::alloc::Global;
 /// What an event leaves of a site.
 #[derive(Drop)]
 pub enum Stepped {
-    /// The site behind the event, and the event's answer.
+    /// The site after the event, and the event's outcome.
     On(Site, Outcome),
-    /// The log device failed: the injector and its event buffer are gone, and the rest of the site is as it was before the event.
+    /// The log device failed. The injector and its event buffer are gone, and the rest of the site
+    /// is unchanged by the event.
     Stopped(StoppedSite),
-    /// Memory ran out, and the site is gone. Its log can be opened again.
+    /// Memory ran out, and the site is gone. Its log can be recovered.
     NoMemory,
 }
 
-/// A site whose injector and event buffer are gone. Its nodes have what they had: unless a group is lost, all messages that are not
-/// acknowledged.
+/// A site whose injector and event buffer are gone. Unless a group is lost, its nodes still have
+/// all unacknowledged messages.
 #[derive(Drop)]
 pub struct StoppedSite {
     pub(crate) alloc: Global,
@@ -37,14 +38,14 @@ pub struct StoppedSite {
     pub(crate) clock: Clock,
     pub(crate) nodes: Nodes,
     pub(crate) outbox: Outbox,
-    // Of the binlog files, in bytes.
+    // The size at which binlog files are rotated, in bytes.
     pub(crate) limit: u64,
     pub(crate) made: u64,
     pub(crate) lost: Option<Loss>,
 }
 
 impl StoppedSite {
-    /// Site A at its start, with these tables, without an injector.
+    /// Returns site A at its start, with these tables and without an injector.
     pub(crate) fn begin(
         alloc: Global,
         schemas: &[Schema],
@@ -54,7 +55,9 @@ impl StoppedSite {
         requires some { 0 < setup.groups * setup.replicas }
         requires few { setup.groups * setup.replicas < 2 ^ 32 }
         requires tables { length schemas.now < 2 ^ 16 }
-        ensures begun { IfOk result (λ site. IsStoppedSite (shape_of schemas.now setup.groups setup.replicas) site (beginning setup.groups setup.replicas)) }
+        ensures begun { IfOk result (λ site.
+            IsStoppedSite (shape_of schemas.now setup.groups setup.replicas) site
+            (beginning setup.groups setup.replicas)) }
         ensures nodes { IfOk result (λ site. HasNodes setup.groups setup.replicas site.nodes) }
         ensures limit { IfOk result (λ site. site.limit ≡ setup.limit) }
     {
@@ -77,11 +80,15 @@ impl StoppedSite {
         })
     }
 
-    /// Each owner sends its buckets again to a new injector, unless a group is lost.
+    /// Has each owner resend its buckets to a new injector, unless a group is lost.
     pub(crate) fn send_again(&mut self) -> Result<(), NoMemory>
         requires fits { (shape : Shape) × (run : Progress) × IsStoppedSite shape self.old run }
-        ensures sent { OnOk result ((shape : Shape) (run : Progress) → IsStoppedSite shape self.old run →
-            IsStoppedSite shape self.new (record run { sent = run.sent ++ sent_to_injector shape run })) }
+        ensures sent { OnOk result ((shape : Shape) (run : Progress) →
+            IsStoppedSite shape self.old run →
+            IsStoppedSite shape self.new (record run {
+              sent = run.sent
+                  ++ sent_to_injector shape run;
+            })) }
         ensures rest { OnOk result (self.new ≡ record self.old { outbox = self.new.outbox }) }
     {
         if self.lost.is_some() {
@@ -93,7 +100,7 @@ impl StoppedSite {
     }
 }
 
-/// What an event leaves that does not touch the device.
+/// Returns what an event leaves that does not touch the device.
 pub(crate) fn step_of(inside: Result<(Site, Outcome), NoMemory>) -> Stepped
     ensures { result ≡ stepped_of inside }
 {

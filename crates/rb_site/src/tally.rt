@@ -13,7 +13,7 @@ pub(crate) struct Tally {
 }
 
 impl Tally {
-    /// Nothing was delivered yet.
+    /// Returns the tally of no delivery.
     pub(crate) fn new() -> Tally
         ensures { result ≡ record { kept = 0; known = 0; outdated = 0 } }
     {
@@ -24,7 +24,7 @@ impl Tally {
         }
     }
 
-    /// Counts an answer.
+    /// Counts one delivery.
     pub(crate) fn add(&mut self, answer: Received)
         requires room { sum_of self.old < 2 ^ 64 - 1 }
         ensures { self.new ≡ with_answer answer self.old }
@@ -36,7 +36,7 @@ impl Tally {
         }
     }
 
-    /// The answer to the delivery of all messages.
+    /// Returns the outcome of delivering all messages.
     pub(crate) fn outcome(self) -> Outcome
         ensures { result ≡ Outcome.Delivered self.kept self.known self.outdated }
     {

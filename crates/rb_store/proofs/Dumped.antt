@@ -30,7 +30,7 @@ by_keys : (look : ℕ → Option Slot) (entries : List (ℕ × Slot)) → AllByR
 by_keys look [] found = refl
 by_keys look (entry ∷ entries) found = rw found.0 (ap (cons_option (row_in (Some entry.1))) (by_keys look entries found.1))
 
--- where there is a row there is a slot
+-- if there is a row there is a slot
 is_there : (slot : Option Slot) → IsSome (row_in slot) → IsSome slot
 is_there None there = there
 is_there (Some slot) there = search rules

@@ -1,4 +1,4 @@
--- The slots of a site's tables where one table changes.
+-- The slots of a site's tables when one table changes.
 use Rattle.std.proofs.Common.{◌≡◌, ℕ, zero, suc, ◌-◌, ◌<◌, ◌≤◌, Bool, true, false, ◌&&◌, List, [], ◌∷◌, length, get_or, slice_set, slice_get, option_and_then, Option, Some, refl, sym, ap, ◌∙◌, subst, arith}
 use Rattle.std.specs.Prelude.{◌==◌, if◌then◌else◌}
 use Rattle.std.proofs.lemmas.Grind.{common_steps}
@@ -32,7 +32,7 @@ both : {X : Type 0} (a b : Bool) (x y : X) → (if a then (if b then x else y) e
 both true b x y = refl
 both false b x y = refl
 
--- what is read of a slot, where one table is another that reads otherwise
+-- what is read of a slot when one table is replaced
 pub changed : {X : Type 0} (read : Option Slot → X) (change : ℕ → X → X) (tables : List Table) (number : ℕ) (old new : Table) → 1 ≤ number → number ≤ length tables → old ≡ get_or tables (number - 1) old
     → ((k : ℕ) → read (slot_in new k) ≡ change k (read (slot_in old k)))
     → (t k : ℕ) → read (slot_at (slice_set tables (number - 1) new) t k) ≡ (if number == t then change k (read (slot_at tables t k)) else read (slot_at tables t k))
@@ -43,7 +43,7 @@ changed read change tables number old new first last is each t k =
     go true same = each k ∙ ap (λ found. change k (read (option_and_then (λ (table : Table). slot_in table k) found))) (sym (subst (λ n. table_at tables n ≡ Some old) (same refl) (table_there tables number old first last is)))
     go false other = refl
 
--- what is read of one key's slot, where that slot alone changes
+-- what is read of one key's slot when only that slot changes
 pub changed_at : {X : Type 0} (read : Option Slot → X) (change : X → X) (tables : List Table) (number key : ℕ) (old new : Table) → 1 ≤ number → number ≤ length tables → old ≡ get_or tables (number - 1) old
     → ((k : ℕ) → read (slot_in new k) ≡ (if key == k then change (read (slot_in old k)) else read (slot_in old k)))
     → (t k : ℕ) → read (slot_at (slice_set tables (number - 1) new) t k) ≡ (if (number == t) && (key == k) then change (read (slot_at tables t k)) else read (slot_at tables t k))

@@ -1,4 +1,4 @@
--- What one table holds: rows by their keys, and the room that is kept beside them.
+-- What one table holds: rows by their keys, and the room beside them.
 use Rattle.std.specs.Prelude.{ℕ, ◌==◌, List, count_by, Option, Some, None}
 use Rattle.std.specs.Ordering.{nat_cmp}
 use Rattle.std.specs.Option.{option_map}
@@ -8,12 +8,12 @@ use Rattle.rb_store.specs.declared.table.Held.{Held}
 use Rattle.rb_store.specs.declared.table.Slot.{Slot}
 use Rattle.rb_store.specs.declared.table.Table.{Table}
 
--- what a slot holds, and none where there is no slot
+-- what a slot holds; nothing if there is no slot
 abbrev pub held_of : Option Slot → Option Held
 held_of None = None
 held_of (Some slot) = slot.held
 
--- how often a slot's key is in the room
+-- how many changes of a slot's key have room
 abbrev pub room_of : Option Slot → ℕ
 room_of None = 0
 room_of (Some slot) = slot.room
@@ -30,10 +30,10 @@ slot_in table key = get nat_cmp table.slots key
 abbrev pub held_in : Table → (key : ℕ) → Option Held
 held_in table key = held_of (slot_in table key)
 
--- how often a key is in the table's room
+-- how many changes of a key have room in the table
 abbrev pub room_in : Table → (key : ℕ) → ℕ
 room_in table key = room_of (slot_in table key)
 
--- how often a key stands in a list
+-- how often a key is in a list
 abbrev pub times : List ℕ → (key : ℕ) → ℕ
 times keys key = count_by (λ other. other == key) keys

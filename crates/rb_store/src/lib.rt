@@ -1,9 +1,9 @@
-//! The tables of a site: finite maps from keys to rows, and room beside them for changes that are to come.
+//! The tables of a site: finite maps from keys to rows, with room reserved for changes to come.
 //!
-//! Room is taken first: of the calls that make room or use it, [`Tables::reserve`] alone can run out of memory, and it
-//! changes no row. Each [`Tables::put`] or [`Tables::remove`] then uses up one place of the room of its key, and cannot
-//! fail. So what is done as a whole is reserved as a whole, and then done. Below stand the values, and the definitions
-//! of a table's rows.
+//! Room is reserved first. Of the calls that make or use room, only [`Tables::reserve`] can run out
+//! of memory, and it changes no row. Each [`Tables::put`] or [`Tables::remove`] then uses one place
+//! of its key's room, and cannot fail. So a transaction reserves all of its room before it changes
+//! a row. The values and the definitions of a table's rows stand below.
 #![tactic(auto)]
 
 mod table;
@@ -11,6 +11,3 @@ mod tables;
 
 pub use table::Held;
 pub use tables::Tables;
-
-#[cfg(test)]
-mod tests;

@@ -6,8 +6,8 @@ use rb_base::{Epoch, NoMemory, Row, Rows};
 use std::alloc::Global;
 use std::collections::BTreeMap;
 
-/// A row that is there, with the server id of the site that made its last change, and the epoch of the site that holds it
-/// in which that change was stored.
+/// A row, with the server id of the site that made its last change, and the epoch in which this
+/// site stored that change.
 #[derive(Debug, Drop)]
 pub struct Held {
     pub row: Row,
@@ -15,14 +15,14 @@ pub struct Held {
     pub epoch: Epoch,
 }
 
-// The place of a key: what it holds, and how many changes of it have room.
+// The slot of a key: what the key holds, and how many of its changes have room.
 #[derive(Debug, Drop)]
 pub(crate) struct Slot {
     held: Option<Held>,
     room: u64,
 }
 
-// One table. A key has a slot from its first reservation on, and until its row and its room are gone.
+// One table. A key has a slot from its first reservation until its row and its room are gone.
 #[derive(Drop)]
 pub(crate) struct Table {
     slots: BTreeMap<u64, Slot>,
@@ -48,10 +48,12 @@ impl Table {
         }
     }
 
-    // Room for one more change of a key.
+    // Reserves room for one more change of a key.
     fn reserve_one(&mut self, key: u64) -> Result<(), NoMemory>
         ensures held { (k : ℕ) → held_in self.new k ≡ held_in self.old k }
-        ensures room { OnOk result ((k : ℕ) → room_in self.new k ≡ (if key == k then room_in self.old k + 1 else room_in self.old k)) }
+        ensures room { OnOk result ((k : ℕ) →
+            room_in self.new k ≡ (if key == k then room_in self.old k + 1 else room_in self.old
+            k)) }
         ensures kept { (k : ℕ) → room_in self.old k ≤ room_in self.new k }
     {
         match self.slots.get_mut(&key) {
@@ -76,7 +78,8 @@ impl Table {
 
     pub(crate) fn reserve(&mut self, keys: &[u64]) -> Result<(), NoMemory>
         ensures held { (k : ℕ) → held_in self.new k ≡ held_in self.old k }
-        ensures room { OnOk result ((k : ℕ) → room_in self.new k ≡ room_in self.old k + times keys.now k) }
+        ensures room { OnOk result ((k : ℕ) →
+            room_in self.new k ≡ room_in self.old k + times keys.now k) }
         ensures kept { (k : ℕ) → room_in self.old k ≤ room_in self.new k }
     {
         for key in keys {
@@ -87,8 +90,10 @@ impl Table {
 
     pub(crate) fn put(&mut self, key: u64, held: Held)
         requires { 0 < room_in self.old key }
-        ensures held { (k : ℕ) → held_in self.new k ≡ (if key == k then Some held else held_in self.old k) }
-        ensures room { (k : ℕ) → room_in self.new k ≡ (if key == k then room_in self.old k - 1 else room_in self.old k) }
+        ensures held { (k : ℕ) → held_in self.new k
+            ≡ (if key == k then Some held else held_in self.old k) }
+        ensures room { (k : ℕ) → room_in self.new k
+            ≡ (if key == k then room_in self.old k - 1 else room_in self.old k) }
     {
         if let Some(slot) = self.slots.get_mut(&key) {
             slot.held = Some(held);
@@ -98,8 +103,10 @@ impl Table {
 
     pub(crate) fn remove(&mut self, key: u64)
         requires { 0 < room_in self.old key }
-        ensures held { (k : ℕ) → held_in self.new k ≡ (if key == k then None else held_in self.old k) }
-        ensures room { (k : ℕ) → room_in self.new k ≡ (if key == k then room_in self.old k - 1 else room_in self.old k) }
+        ensures held { (k : ℕ) → held_in self.new k
+            ≡ (if key == k then None else held_in self.old k) }
+        ensures room { (k : ℕ) → room_in self.new k
+            ≡ (if key == k then room_in self.old k - 1 else room_in self.old k) }
     {
         let Some(slot) = self.slots.get_mut(&key) else {
             return;

@@ -1,4 +1,4 @@
--- How far a log is seen, one event at a time.
+-- The reading of a log, one event at a time.
 use Rattle.std.proofs.Common.{◌≡◌, ℕ, suc, ◌+◌, ◌<◌, ◌≤◌, Bool, true, false, List, [], ◌∷◌, ◌++◌, length, take, drop, Some, None, refl, ap, ◌∙◌, arith, length-append, length-drop}
 use Rattle.std.specs.Prelude.{nat_le, if◌then◌else◌}
 use Rattle.std.proofs.lemmas.Bool.{le-leb, lt-leb, lt-ltb, le-ltb}
@@ -14,7 +14,7 @@ use Rattle.rb_read_defs.proofs.EventSeen.{same_cuts}
 use Rattle.rb_read_defs.proofs.Growing.{header_more}
 use Rattle.rb_stream.specs.Next.{Reads}
 
--- the first event, and all that are behind it
+-- the first event and all events after it
 by_reading : (at : ℕ) (bytes : List ℕ) (r : Reading Header) (first other : ℕ → List Cut) → ((size : ℕ) → first size ≡ other size) → cut_by at bytes r first ≡ cut_by at bytes r other
 by_reading at bytes (Read head after) first other same =
     ap (λ (later : List Cut). if nat_le head.size (length bytes) then record { at = at; head = Read head after; payload = Some (drop 19 (take head.size bytes)) } ∷ later else record { at = at; head = Read head after; payload = None } ∷ []) (same head.size)
@@ -29,7 +29,7 @@ next_cut at bytes long =
     (by_reading at bytes (header at bytes 0) (λ size. cut_from (length bytes) (at + size) (drop size bytes)) (λ size. cuts (at + size) (drop size bytes))
     (λ size. let d = length-drop size bytes in same_cuts (length bytes) (length (drop size bytes)) (at + size) (drop size bytes) (omega arith) (omega arith)))
 
--- nothing is whole where no header is there
+-- if no header is complete, no event is
 pub no_header : (at : ℕ) (bytes : List ℕ) (known : List Known) → length bytes < 19 → seen_from known (cuts at bytes) ≡ record { known = known; fault = None }
 unfolding cut_from seen_from
 no_header at bytes known short =
@@ -44,7 +44,7 @@ pub wrong_header : (at : ℕ) (bytes : List ℕ) (known : List Known) (place : �
 unfolding seen_from judge
 wrong_header at bytes known place field long is = rw (next_cut at bytes long, is) refl
 
--- a header that is out of place
+-- a header that is not allowed here
 pub misplaced : (at : ℕ) (bytes : List ℕ) (known : List Known) (head : Header) (after : ℕ) (field : Field) → 19 ≤ length bytes → header at bytes 0 ≡ Read head after → header_fault at known head ≡ Some field →
     seen_from known (cuts at bytes) ≡ record { known = known; fault = Some (at, field) }
 unfolding seen_from judge
@@ -55,19 +55,19 @@ misplaced at bytes known head after field long is bad = rw (next_cut at bytes lo
     go true = rw bad refl
     go false = rw bad refl
 
--- an event that is not whole
+-- an event that is not complete
 pub not_whole : (at : ℕ) (bytes : List ℕ) (known : List Known) (head : Header) (after : ℕ) → 19 ≤ length bytes → header at bytes 0 ≡ Read head after → header_fault at known head ≡ None → length bytes < head.size →
     seen_from known (cuts at bytes) ≡ record { known = known; fault = None }
 unfolding seen_from judge
 not_whole at bytes known head after long is good short = rw (next_cut at bytes long, is, lt-leb head.size (length bytes) short, good) refl
 
--- an event that is whole
+-- a complete event
 pub whole_event : (at : ℕ) (bytes : List ℕ) (known : List Known) (head : Header) (after : ℕ) → 19 ≤ length bytes → header at bytes 0 ≡ Read head after → header_fault at known head ≡ None → head.size ≤ length bytes →
     seen_from known (cuts at bytes) ≡ seen_by at known (judge_payload known at head (drop 19 (take head.size bytes))) (λ event. seen_from (event ∷ known) (cuts (at + head.size) (drop head.size bytes)))
 unfolding seen_from judge
 whole_event at bytes known head after long is good whole = rw (next_cut at bytes long, is, le-leb head.size (length bytes) whole, good) refl
 
--- an event whose payload has a field that does not end within it, or a wrong one
+-- an event with a payload field that does not end within the payload, or with a wrong one
 pub short_payload : (at : ℕ) (bytes : List ℕ) (known : List Known) (head : Header) (after place : ℕ) → 19 ≤ length bytes → header at bytes 0 ≡ Read head after → header_fault at known head ≡ None → head.size ≤ length bytes →
     content_in at known head (drop 19 (take head.size bytes)) 0 ≡ Short place → seen_from known (cuts at bytes) ≡ record { known = known; fault = Some (at, EventSize) }
 unfolding judge_payload
@@ -78,13 +78,13 @@ pub wrong_payload : (at : ℕ) (bytes : List ℕ) (known : List Known) (head : H
 unfolding judge_payload
 wrong_payload at bytes known head after place field long is good whole content = whole_event at bytes known head after long is good whole ∙ rw content refl
 
--- an event that was read, whose apply-status rows make it bad
+-- an event that was read and that its apply-status rows make bad
 pub wrong_status : (at : ℕ) (bytes : List ℕ) (known : List Known) (head : Header) (says : Content) → Reads at bytes known head says → has_statuses known head.server says ≡ false →
     seen_from known (cuts at bytes) ≡ record { known = known; fault = Some (at, Status) }
 unfolding judge_payload
 wrong_status at bytes known head says reads bad = whole_event at bytes known head reads.after reads.long reads.head_read reads.good reads.whole ∙ rw (reads.content_read, bad) refl
 
--- an event that was read and is good: however the log goes on, it is seen as behind it
+-- an event that was read and is good: the reading continues after it, whatever bytes follow
 good_event : (at : ℕ) (bytes : List ℕ) (known : List Known) (head : Header) (says : Content) → Reads at bytes known head says → has_statuses known head.server says ≡ true →
     seen_from known (cuts at bytes) ≡ seen_from (record { end = at + head.size; server = head.server; says = says } ∷ known) (cuts (at + head.size) (drop head.size bytes))
 unfolding judge_payload

@@ -1,4 +1,4 @@
--- An id among ascending ones.
+-- An id among ascending ids.
 use Rattle.std.proofs.Common.{◌≡◌, ◌⊎◌, inl, inr, ℕ, zero, suc, ◌<◌, ◌≤◌, true, false, List, [], ◌∷◌, length, get_or, refl, sym, ap, subst, arith}
 use Rattle.std.specs.Prelude.{◌==◌}
 use Rattle.std.specs.List.{insert, AllByRecursion}
@@ -8,7 +8,7 @@ use Rattle.rb_base.specs.declared.change.Change.{Change}
 use Rattle.rb_read_defs.specs.Stream.{among, tables_named}
 use Rattle.rb_read_defs.proofs.TablesNamed.{Ascend, tables_ascend}
 
--- what holds of each item holds of the one at a place
+-- a fact about each item holds for the item at a place
 by_place : (P : ℕ → Type 0) (xs : List ℕ) (i : ℕ) → AllByRecursion P xs → i < length xs → P (get_or xs i 0)
 by_place P [] i all lt = absurd (omega arith)
 by_place P (x ∷ xs) zero all lt = all.0
@@ -28,7 +28,7 @@ not_falling changes xs is i j le there = go (cases_lt i j)
     go (inl before) = let up = rising xs (subst Ascend (sym is) (tables_ascend changes)) i j before there in omega arith
     go (inr same) = let at : i ≡ j = omega arith in subst (λ (n : ℕ). get_or xs i 0 ≤ get_or xs n 0) at (omega arith)
 
--- an id that is there
+-- an id that is already in the list
 there_among : (id i : ℕ) (xs : List ℕ) → Ascend xs → i < length xs → get_or xs i 0 ≡ id → among id xs ≡ xs
 there_among id i [] up lt is = absurd (omega arith)
 there_among id zero (x ∷ xs) up lt is =
@@ -42,7 +42,7 @@ there_among id (suc i) (x ∷ xs) up lt is =
 pub among_there : (changes : List Change) (id i : ℕ) (xs : List ℕ) → xs ≡ tables_named changes → i < length xs → get_or xs i 0 ≡ id → among id xs ≡ xs
 among_there changes id i xs is lt there = there_among id i xs (subst Ascend (sym is) (tables_ascend changes)) lt there
 
--- an id that is not there, at its place
+-- an id that is not in the list yet, inserted at its place
 pub among_new : (id i : ℕ) (xs : List ℕ) → i ≤ length xs → ((k : ℕ) → k < i → get_or xs k 0 < id) → ((k : ℕ) → i ≤ k → k < length xs → id < get_or xs k 0) → among id xs ≡ insert xs i id
 among_new id zero [] le below above = refl
 among_new id (suc i) [] le below above = absurd (omega arith)

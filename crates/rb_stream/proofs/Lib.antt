@@ -3,4 +3,4 @@ mod IdLaws
 mod MapLaws
 mod NextLaws
 mod TakeLaws
-mod TellLaws
+mod StatusLaws

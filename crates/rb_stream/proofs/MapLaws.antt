@@ -7,7 +7,7 @@ use Rattle.std.specs.BTreeMap.{BTreeMap, get, is_at, Updates, IsUnchanged}
 use Rattle.rb_base.specs.declared.schema.Mapped.{Mapped}
 use Rattle.rb_codec.specs.Columns.{HasColumns}
 
--- where a table with columns was mapped, or nothing was, each table has columns as before
+-- if a table with columns was mapped, or nothing changed, each mapped table has columns
 pub columns_kept : {A B : Type 0} (result : Result A B) (before after : BTreeMap ℕ Mapped) (key : ℕ) (table : Mapped) → OnOk result (Updates nat_cmp before after key (Some table)) → OnErr result (IsUnchanged before after) → HasColumns table →
     ((id : ℕ) (x : Mapped) → get nat_cmp before id ≡ Some x → HasColumns x) → (id : ℕ) (x : Mapped) → get nat_cmp after id ≡ Some x → HasColumns x
 columns_kept (Ok value) before after key table updates same columns held id x is = go (is_at (nat_cmp key) id) (sym (updates.0 id) ∙ is)

@@ -1,4 +1,4 @@
--- A decoder goes from event to event.
+-- A decoder gets from event to event.
 use Rattle.std.proofs.Common.{◌≡◌, ◌≢◌, ℕ, ◌+◌, ◌<◌, ◌≤◌, Bool, true, false, List, [], ◌∷◌, ◌++◌, length, take, drop, Option, Some, None, Result, Ok, Err, refl, sym, ap, subst, ◌∙◌, arith, length-append, length-drop, append_assoc, take_all, ◌-◌}
 use Rattle.std.specs.Prelude.{OnOk, ◌==◌, not, if◌then◌else◌, is_some}
 use Rattle.std.specs.Option.{option_map, option_map_or}
@@ -28,7 +28,7 @@ use Rattle.rb_stream.specs.declared.epoch.OpenEpoch.{OpenEpoch}
 use Rattle.rb_stream.specs.declared.decoder.Decoder.{Decoder}
 use Rattle.rb_stream.proofs.CutLaws.{short_payload, wrong_payload, wrong_status, goes_past}
 
--- what was read, by what was answered
+-- the reading of a call that returned this value
 pub read_of : {X : Type 0} (r : Reading X) (value : X) → Ok value ≡ answer_of r → (after : ℕ) × (r ≡ Read value after)
 read_of (Read found after) value is = (after, ap (λ x. Read x after) (let same : Ok found ≡ Ok value = sym is in cc))
 read_of {X} (Short at) value is = absurd (let no : ◌≡◌ {A = Result X CodecFault} (Ok value) (Err (codec.Short at)) = is in cc)
@@ -44,7 +44,7 @@ wrong_of {X} (Read found after) place field is = absurd (let no : ◌≡◌ {A =
 wrong_of {X} (Short at) place field is = absurd (let no : ◌≡◌ {A = Result X CodecFault} (Err (codec.BadField place field)) (Err (codec.Short at)) = is in cc)
 wrong_of {X} (Wrong at other) place field is = let same : ◌≡◌ {A = Result X CodecFault} (Err (codec.BadField at other)) (Err (codec.BadField place field)) = sym is in cc
 
--- an epoch is open where one is held
+-- an epoch is open exactly if the decoder holds one
 pub open_is : (current : Option OpenEpoch) (known : List Known) → IsOpen current (open_epoch known) → is_some current ≡ is_open known
 open_is current known held = go current (open_epoch known) held
   where
@@ -54,7 +54,7 @@ open_is current known held = go current (open_epoch known) held
     go None (Some events) held = absurd held
     go (Some epoch) None held = absurd held
 
--- no epoch is open behind an event just where the event stands outside
+-- no epoch is open after an event exactly if the event is outside an epoch
 still_open : (event : Known) (events : Option (List Known)) → not (is_some events) ≡ not (is_some (option_map (λ inner. event ∷ inner) events))
 still_open event None = refl
 still_open event (Some inner) = refl
@@ -70,11 +70,11 @@ outside_of end server (contents.Changes all) known = still_open (record { end = 
 outside_of end server (contents.Statuses rows) known = still_open (record { end = end; server = server; says = contents.Statuses rows }) (open_epoch known)
 outside_of end server contents.Skipped known = still_open (record { end = end; server = server; says = contents.Skipped }) (open_epoch known)
 
--- a header that was read is that of an event with a size of its own at least
+-- a header that was read has a length of at least 19 bytes
 pub size_of_header : (at : ℕ) (bytes : List ℕ) (head : Header) → Ok head ≡ answer_of (header at bytes 0) → 19 ≤ head.size
 size_of_header at bytes head is = let (after, read) = read_of (header at bytes 0) head is in header_size at bytes head after read
 
--- an event of which this could not be read is bad
+-- an event whose content cannot be read is bad
 pub payload_fails : (at : ℕ) (bytes : List ℕ) (known : List Known) (head : Header) (after : ℕ) (fault : CodecFault) → 19 ≤ length bytes → header at bytes 0 ≡ Read head after → header_fault at known head ≡ None → head.size ≤ length bytes →
     (◌≢◌ {A = Result Content CodecFault} (Err fault) (Err codec.NoMemory) → Err fault ≡ answer_of (content_in at known head (drop 19 (take head.size bytes)) 0)) → Meets at bytes known (Err (fault_at at fault))
 payload_fails at bytes known head after (codec.Short place) long is good whole answer =
@@ -83,11 +83,11 @@ payload_fails at bytes known head after (codec.BadField place field) long is goo
     wrong_payload at bytes known head after place field long is good whole (wrong_of (content_in at known head (drop 19 (take head.size bytes)) 0) place field (answer (λ same. let no : ◌≡◌ {A = Result Content CodecFault} (Err (codec.BadField place field)) (Err codec.NoMemory) = same in cc)))
 payload_fails at bytes known head after codec.NoMemory long is good whole answer = tt
 
--- a decoder behind an event that it went past
-pub stands_behind : (before after : Decoder) (position : ℕ) (bytes : List ℕ) (known : List Known) (head : Header) (says : Content) (given : Option Step) → StandsAt before position bytes known → before.magic_due ≡ false →
+-- a decoder after an event that it has decoded
+pub stands_after : (before after : Decoder) (position : ℕ) (bytes : List ℕ) (known : List Known) (head : Header) (says : Content) (given : Option Step) → StandsAt before position bytes known → before.magic_due ≡ false →
     Reads before.at before.unread known head says → GoesPast known head says (Ok given) before after →
     StandsAt after position bytes (record { end = before.at + head.size; server = head.server; says = says } ∷ known)
-stands_behind before after position bytes known head says given stands due reads (good, gives, knows, at, unread, magic_due, counted) =
+stands_after before after position bytes known head says given stands due reads (good, gives, knows, at, unread, magic_due, counted) =
     let whole = reads.whole in
     let size = ap length unread ∙ length-drop head.size before.unread in
     let fed = stands.fed in record {
@@ -103,7 +103,7 @@ stands_behind before after position bytes known head says given stands due reads
     before_on : before.magic_due ≡ false → GoesOn before.magic_due position bytes known before.at before.unread → GoesOn false position bytes known before.at before.unread
     before_on due on = subst (λ (b : Bool). GoesOn b position bytes known before.at before.unread) due on
 
--- the events that a decoder has gone past are the first that are seen
+-- the events that a decoder has decoded are the first ones that can be read
 pub first_seen : (decoder : Decoder) (position : ℕ) (bytes : List ℕ) (known : List Known) → StandsAt decoder position bytes known → (later : List Known) × ((seen_of position bytes).known ≡ later ++ known)
 first_seen decoder position bytes known stands = go decoder.magic_due stands.on
   where
@@ -113,7 +113,7 @@ first_seen decoder position bytes known stands = go decoder.magic_due stands.on
         let (later, is) = seen_later known (cuts decoder.at (decoder.unread ++ [])) in
         (later, ap (λ (all : List ℕ). (seen_of position all).known) (sym (append-nil bytes)) ∙ ap (λ seen. seen.known) (on []) ∙ is)
 
--- and all that is seen, where nothing is seen behind them
+-- they are all events that can be read, if no further event can be read after them
 pub all_seen : (decoder : Decoder) (position : ℕ) (bytes : List ℕ) (known : List Known) → StandsAt decoder position bytes known → decoder.magic_due ≡ false → seen_of position bytes ≡ seen_from known (cuts decoder.at decoder.unread)
 all_seen decoder position bytes known stands due =
     ap (seen_of position) (sym (append-nil bytes)) ∙ on [] ∙ ap (λ (rest : List ℕ). seen_from known (cuts decoder.at rest)) (append-nil decoder.unread)
@@ -127,7 +127,7 @@ payload_is size slice unread is =
     let l = length-drop 19 (take size slice) in
     take_all (length (take size slice) - 19) (drop 19 (take size slice)) (omega arith) ∙ ap (λ (xs : List ℕ). drop 19 (take size xs)) is
 
--- a log that begins with its magic number, or not yet, or with other bytes
+-- a log whose magic number is not complete, complete, or replaced by other bytes
 pub magic_short : (position : ℕ) (bytes unread : List ℕ) → position ≡ 0 → bytes ≡ unread → length unread < 4 → seen_of position bytes ≡ record { known = []; fault = None }
 unfolding seen_of
 magic_short position bytes unread start whole short = subst (λ (p : ℕ). seen_of p bytes ≡ record { known = []; fault = None }) (sym start) (rw (lt-ltb (length bytes) 4 (let l = ap length whole in omega arith)) refl)
@@ -146,7 +146,7 @@ magic_there position bytes unread start whole long same more =
     (subst (λ (xs : List ℕ). seen_of 0 (xs ++ more) ≡ seen_from [] (cuts 4 (drop 4 unread ++ more))) (sym whole)
     (rw (le-ltb (length (unread ++ more)) 4 (omega arith), take-append-le 4 unread more long, drop-append-le 4 unread more long, same) refl))
 
--- where a decoder begins
+-- the state in which a decoder begins
 pub begins : (position : ℕ) → GoesOn (position == 0) position [] [] position []
 unfolding seen_of
 begins position = go (position == 0) refl
@@ -155,7 +155,7 @@ begins position = go (position == 0) refl
     go true is = let zero_is : position ≡ 0 = eqb-true position 0 is in (zero_is, zero_is, refl, refl)
     go false is = λ more. rw is refl
 
--- more bytes behind those that are there
+-- more bytes after those that are there
 pub goes_on_more : (b : Bool) (position : ℕ) (bytes piece : List ℕ) (known : List Known) (at : ℕ) (unread after : List ℕ) → after ≡ unread ++ piece → GoesOn b position bytes known at unread → GoesOn b position (bytes ++ piece) known at after
 goes_on_more true position bytes piece known at unread after is (start, first, whole, none) = (start, first, ap (λ (xs : List ℕ). xs ++ piece) whole ∙ sym is, none)
 goes_on_more false position bytes piece known at unread after is on = λ more.
@@ -167,7 +167,7 @@ seen_first position bytes piece passed (later, is) =
     let (more, all) = (seen_more position bytes piece).0 in
     (more ++ later, all ∙ ap (λ (events : List Known). more ++ events) is ∙ sym (append_assoc more later passed))
 
--- a decoder that was fed more: all but its bytes is as before
+-- a decoder that was fed more bytes: only its bytes change
 pub fed_more : (before after : Decoder) (position : ℕ) (bytes piece : List ℕ) (passed : List Known) → after.unread ≡ before.unread ++ piece → after.at ≡ before.at → after.magic_due ≡ before.magic_due → after.rotated ≡ before.rotated → after.current ≡ before.current →
     after.counted ≡ before.counted → after.settled ≡ before.settled → StandsFor before position bytes passed → StandsFor after position (bytes ++ piece) passed
 fed_more before after position bytes piece passed unread at due rotated current counted settled stands =
@@ -190,21 +190,21 @@ fed_more before after position bytes piece passed unread at due rotated current 
       };
     }
 
--- where the magic number is due, nothing was gone past
+-- if the magic number comes next, nothing is decoded yet
 pub due_first : (decoder : Decoder) (position : ℕ) (bytes : List ℕ) (passed : List Known) → decoder.magic_due ≡ true → IsAheadOf decoder position bytes passed → (passed ≡ []) × StandsAt decoder position bytes []
 due_first decoder position bytes passed due ahead =
     let (start, at, whole, none) = subst (λ (b : Bool). GoesOn b position bytes (ahead.quiet ++ passed) decoder.at decoder.unread) due ahead.stands.on in
     (both ahead.quiet passed none, subst (λ (known : List Known). StandsAt decoder position bytes known) none ahead.stands)
   where
-    both : (front behind : List Known) → front ++ behind ≡ [] → behind ≡ []
-    both [] behind is = is
-    both (event ∷ front) behind is = absurd (let no : ◌≡◌ {A = List Known} (event ∷ (front ++ behind)) [] = is in cc)
+    both : (front following : List Known) → front ++ following ≡ [] → following ≡ []
+    both [] following is = is
+    both (event ∷ front) following is = absurd (let no : ◌≡◌ {A = List Known} (event ∷ (front ++ following)) [] = is in cc)
 
 pub ahead_of_none : (decoder : Decoder) (position : ℕ) (bytes : List ℕ) (passed : List Known) → passed ≡ [] → StandsAt decoder position bytes [] → IsAheadOf decoder position bytes passed
 ahead_of_none decoder position bytes passed none stands =
     subst (λ (events : List Known). IsAheadOf decoder position bytes events) (sym none) (record { quiet = []; silent = refl; stands = stands })
 
--- nothing but this is seen of the bytes
+-- the reading of the bytes ends at their start
 pub ends_at_start : (decoder : Decoder) (position : ℕ) (bytes : List ℕ) (passed : List Known) (fault : Option (ℕ × Field)) → passed ≡ [] → seen_of position bytes ≡ record { known = []; fault = fault } → StandsAt decoder position bytes [] → EndsQuiet position bytes passed fault decoder
 ends_at_start decoder position bytes passed fault none seen stands = record {
   silent = ap (λ all. steps_of all.known) seen ∙ ap steps_of (sym none);
@@ -212,7 +212,7 @@ ends_at_start decoder position bytes passed fault none seen stands = record {
   stands = subst (λ (known : List Known). StandsAt decoder position bytes known) (sym (ap (λ all. all.known) seen)) stands;
 }
 
--- nothing but this is seen behind the events that were gone past
+-- the reading of the bytes ends after the events that were decoded
 pub ends_quiet : (decoder : Decoder) (position : ℕ) (bytes : List ℕ) (passed : List Known) (fault : Option (ℕ × Field)) (ahead : IsAheadOf decoder position bytes passed) → decoder.magic_due ≡ false →
     seen_from (ahead.quiet ++ passed) (cuts decoder.at decoder.unread) ≡ record { known = ahead.quiet ++ passed; fault = fault } → EndsQuiet position bytes passed fault decoder
 ends_quiet decoder position bytes passed fault ahead due seen =
@@ -222,7 +222,7 @@ ends_quiet decoder position bytes passed fault ahead due seen =
       stands = subst (λ (known : List Known). StandsAt decoder position bytes known) (sym (ap (λ what. what.known) all)) ahead.stands;
     }
 
--- an event gives no wish for more
+-- no event gives the step `NeedMore`
 never_needs : (known : List Known) (end server : ℕ) (says : Content) → step_of known (record { end = end; server = server; says = says }) ≡ steps.NeedMore ∷ [] → ⊥
 never_needs known end server contents.Formats is = let no : ◌≡◌ {A = List Step} (steps.Format ∷ []) (steps.NeedMore ∷ []) = is in cc
 never_needs known end server contents.Begins is = let no : ◌≡◌ {A = List Step} [] (steps.NeedMore ∷ []) = is in cc
@@ -240,7 +240,7 @@ never_needs known end server contents.Skipped is = let no : ◌≡◌ {A = List 
 -- an event that gives a step
 pub gives : (before after : Decoder) (position : ℕ) (bytes : List ℕ) (passed : List Known) (head : Header) (says : Content) (step : Step) (ahead : IsAheadOf before position bytes passed) → before.magic_due ≡ false →
     Reads before.at before.unread (ahead.quiet ++ passed) head says → GoesPast (ahead.quiet ++ passed) head says (Ok (Some step)) before after → AnswersAhead position bytes passed (Ok step) after
-gives before after position bytes passed head says step ahead due reads past = by_step step (sym past.1) (stands_behind before after position bytes (ahead.quiet ++ passed) head says (Some step) ahead.stands due reads past)
+gives before after position bytes passed head says step ahead due reads past = by_step step (sym past.1) (stands_after before after position bytes (ahead.quiet ++ passed) head says (Some step) ahead.stands due reads past)
   where
     event : Known
     event = record { end = before.at + head.size; server = head.server; says = says }
@@ -251,17 +251,17 @@ gives before after position bytes passed head says step ahead due reads past = b
     by_step (steps.Epoch body end) is stands = (ahead.quiet, event, ahead.silent, is, stands)
     by_step (steps.Rotate to name) is stands = (ahead.quiet, event, ahead.silent, is, stands)
 
--- an event that gives none
+-- an event that gives no step
 pub passes_quiet : (before after : Decoder) (position : ℕ) (bytes : List ℕ) (passed : List Known) (head : Header) (says : Content) (ahead : IsAheadOf before position bytes passed) → before.magic_due ≡ false →
     Reads before.at before.unread (ahead.quiet ++ passed) head says → GoesPast (ahead.quiet ++ passed) head says (Ok None) before after → IsAheadOf after position bytes passed
 unfolding steps_of
 passes_quiet before after position bytes passed head says ahead due reads past = record {
   quiet = record { end = before.at + head.size; server = head.server; says = says } ∷ ahead.quiet;
   silent = ap (λ (given : List Step). steps_of (ahead.quiet ++ passed) ++ given) (sym past.1) ∙ append-nil (steps_of (ahead.quiet ++ passed)) ∙ ahead.silent;
-  stands = stands_behind before after position bytes (ahead.quiet ++ passed) head says None ahead.stands due reads past;
+  stands = stands_after before after position bytes (ahead.quiet ++ passed) head says None ahead.stands due reads past;
 }
 
--- a decoder that stands where it stood
+-- a decoder that is unchanged
 stays : (before after : Decoder) (position : ℕ) (bytes : List ℕ) (known : List Known) → StandsAt before position bytes known → Stays known before after → StandsAt after position bytes known
 stays before after position bytes known stands same =
     let l = ap length same.unread in let a = same.at in let f = stands.fed in record {
@@ -272,7 +272,7 @@ stays before after position bytes known stands same =
       knows = same.knows;
     }
 
--- an event that was not gone past: it is bad, or there was no memory
+-- an event that was not taken: it is bad, or memory allocation failed
 pub refuses : (before after : Decoder) (position : ℕ) (bytes : List ℕ) (passed : List Known) (head : Header) (says : Content) (fault : StreamFault) (ahead : IsAheadOf before position bytes passed) → before.magic_due ≡ false →
     Reads before.at before.unread (ahead.quiet ++ passed) head says → GoesPast (ahead.quiet ++ passed) head says (Err fault) before after → AnswersAhead position bytes passed (Err fault) after
 refuses before after position bytes passed head says faults.NoMemory ahead due reads past = record { quiet = ahead.quiet; silent = ahead.silent; stands = stays before after position bytes (ahead.quiet ++ passed) ahead.stands past }
@@ -285,18 +285,18 @@ refuses before after position bytes passed head says (faults.BadEvent place fiel
     ∙ ap (λ (xs : List ℕ). seen_from (ahead.quiet ++ passed) (cuts before.at xs)) same.unread
     ∙ wrong_status before.at before.unread (ahead.quiet ++ passed) head says reads bad)))
 
--- what the next event's fault, or its absence, answers
+-- the result of a fault in the next event, or of its absence
 pub meets_fault : (decoder : Decoder) (position : ℕ) (bytes : List ℕ) (passed : List Known) (fault : StreamFault) (ahead : IsAheadOf decoder position bytes passed) → decoder.magic_due ≡ false → Meets decoder.at decoder.unread (ahead.quiet ++ passed) (Err fault) → AnswersAhead position bytes passed (Err fault) decoder
 meets_fault decoder position bytes passed faults.NoMemory ahead due meets = ahead
 meets_fault decoder position bytes passed (faults.BadEvent place field) ahead due meets = ends_quiet decoder position bytes passed (Some (place, field)) ahead due meets
 
--- a decoder has gone past events that give no step
+-- a decoder has decoded events that give no step
 pub record HasPassed (start now : Decoder) : Type 0 where
   pub ahead : (position : ℕ) (bytes : List ℕ) (passed : List Known) → IsAheadOf start position bytes passed → IsAheadOf now position bytes passed
   pub due : now.magic_due ≡ false
   pub settled : now.settled ≡ start.settled
 
--- the same of a call that may want memory
+-- the same for a call that may run out of memory
 pub if_fed : {E : Type 0} (result : Result (Unit {0}) E) (before after : Decoder) (piece : List ℕ) → OnOk result (after.unread ≡ before.unread ++ piece) → after.at ≡ before.at → after.magic_due ≡ before.magic_due → after.rotated ≡ before.rotated → after.current ≡ before.current →
     after.counted ≡ before.counted → after.settled ≡ before.settled → OnOk result ((position : ℕ) (bytes : List ℕ) (passed : List Known) → StandsFor before position bytes passed → StandsFor after position (bytes ++ piece) passed)
 if_fed (Ok value) before after piece unread at due rotated current counted settled = λ position bytes passed stands. fed_more before after position bytes piece passed unread at due rotated current counted settled stands
@@ -307,7 +307,7 @@ pub none_at_first : IsOpen None (open_epoch [])
 unfolding open_epoch
 none_at_first = tt
 
--- what a decoder answered for, once it counts
+-- the steps of the decoded events count as returned
 pub counts : (before after : Decoder) (position : ℕ) (bytes : List ℕ) (known : List Known) → after.at ≡ before.at → after.unread ≡ before.unread → after.magic_due ≡ before.magic_due → after.rotated ≡ before.rotated → after.current ≡ before.current →
     after.counted ≡ before.counted → after.settled ≡ before.counted → StandsAt before position bytes known → StandsFor after position bytes known
 counts before after position bytes known at unread due rotated current counted settled stands =
@@ -338,11 +338,11 @@ answers (Ok (steps.Epoch body end)) before after position bytes passed some at u
 answers (Ok (steps.Rotate to name)) before after position bytes passed some at unread due rotated current counted settled (quiet, event, silent, given, stands) =
     (event ∷ (quiet ++ passed), record { quiet = quiet; silent = silent; event = event; events = refl; given = given }, counts before after position bytes (event ∷ (quiet ++ passed)) at unread due rotated current counted settled stands)
 
--- without memory a decoder stands for what it stood for
+-- if memory allocation fails, a decoder represents the same as before
 pub wants : (start after : Decoder) (position : ℕ) (bytes : List ℕ) (passed : List Known) → after.settled ≡ start.settled → StandsFor start position bytes passed → IsAheadOf after position bytes passed → StandsFor after position bytes passed
 wants start after position bytes passed settled stands ahead = record { fed = ahead.stands.fed; seen = stands.seen; settled = settled ∙ stands.settled; ahead = ahead }
 
--- what is nothing else is none
+-- an option that has no value is `None`
 pub none_of : {X : Type 0} (o : Option X) → ((x : X) → o ≡ Some x → ⊥) → o ≡ None
 none_of None none = refl
 none_of (Some x) none = absurd (none x refl)

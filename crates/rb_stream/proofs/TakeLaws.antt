@@ -1,4 +1,4 @@
--- What events do to the epoch that is open.
+-- The effects of events on the open epoch.
 use Rattle.std.proofs.Common.{◌≡◌, ℕ, List, [], ◌∷◌, ◌++◌, Option, Some, None, true, false, Bool, Ok, refl, sym, ap, ap₂, subst, ◌∙◌, arith}
 use Rattle.std.specs.Prelude.{◌==◌, ◌||◌, if◌then◌else◌, map, find, unwrap_or, option_to_list}
 use Rattle.std.specs.List.{flat_map, list_any}
@@ -17,65 +17,65 @@ use Rattle.rb_read_defs.specs.declared.answers.Step.TheVariants as steps
 use Rattle.rb_read_defs.specs.declared.answers.Content.TheVariants.{Formats, Begins, Ends, Rotates, Maps, Changes, Statuses, Skipped}
 use Rattle.rb_read_defs.specs.declared.answers.StatusRow.{StatusRow}
 use Rattle.rb_stream.specs.declared.epoch.OpenEpoch.{OpenEpoch}
-use Rattle.rb_stream.specs.declared.told.Told.{Told}
-use Rattle.rb_stream.specs.Told.{Tells}
+use Rattle.rb_stream.specs.declared.epoch_status.EpochStatus.{EpochStatus}
+use Rattle.rb_stream.specs.EpochStatus.{HoldsStatus}
 use Rattle.rb_stream.specs.Epoch.{IsOpen, HoldsEpoch, table_in, named_tables}
 use Rattle.rb_stream.specs.Taking.{Closes}
 
--- the epoch that is held is open
+-- the epoch that the decoder holds is the open one
 pub opened : (current : Option OpenEpoch) (epoch : OpenEpoch) (events : Option (List Known)) → current ≡ Some epoch → IsOpen current events → IsOpen (Some epoch) events
 opened current epoch events is held = subst (λ (which : Option OpenEpoch). IsOpen which events) is held
 
--- an event in the epoch that is open
+-- an event in the open epoch
 with_event : (before after : OpenEpoch) (event : Known) (events : Option (List Known)) → IsOpen (Some before) events → ((inner : List Known) → HoldsEpoch before inner → HoldsEpoch after (event ∷ inner)) → IsOpen (Some after) (option_map (λ inner. event ∷ inner) events)
 with_event before after event (Some inner) held step = step inner held
 with_event before after event None held step = absurd held
 
--- and where none is open
+-- an event outside an epoch
 pub none_open : (event : Known) (events : Option (List Known)) → IsOpen None events → IsOpen None (option_map (λ inner. event ∷ inner) events)
 none_open event None held = tt
 none_open event (Some inner) held = absurd held
 
 pub map_taken : (before after : OpenEpoch) (end server : ℕ) (table : Mapped) (known : List Known) → IsOpen (Some before) (open_epoch known) →
-    ((id : ℕ) → table_in after id ≡ (if table.id == id then Some table else table_in before id)) → after.told ≡ before.told → after.changes ≡ before.changes →
+    ((id : ℕ) → table_in after id ≡ (if table.id == id then Some table else table_in before id)) → after.epoch_status ≡ before.epoch_status → after.changes ≡ before.changes →
     IsOpen (Some after) (open_epoch (record { end = end; server = server; says = Maps table } ∷ known))
 unfolding open_epoch
-map_taken before after end server table known held tables told changes =
+map_taken before after end server table known held tables epoch_status changes =
     with_event before after (record { end = end; server = server; says = Maps table }) (open_epoch known) held (λ inner holds. record {
       tables = λ id. tables id ∙ ap (λ (other : Option Mapped). if table.id == id then Some table else other) (holds.tables id);
-      told = rw told holds.told;
+      epoch_status = rw epoch_status holds.epoch_status;
       changes = rw changes (holds.changes ∙ sym (append-nil _));
     })
 
 pub changes_taken : (before after : OpenEpoch) (end server : ℕ) (changes : List Change) (known : List Known) → IsOpen (Some before) (open_epoch known) →
-    after.changes.items ≡ before.changes.items ++ changes → after.told ≡ before.told → after.tables ≡ before.tables →
+    after.changes.items ≡ before.changes.items ++ changes → after.epoch_status ≡ before.epoch_status → after.tables ≡ before.tables →
     IsOpen (Some after) (open_epoch (record { end = end; server = server; says = Changes changes } ∷ known))
 unfolding open_epoch
-changes_taken before after end server changes known held more told tables =
+changes_taken before after end server changes known held more epoch_status tables =
     with_event before after (record { end = end; server = server; says = Changes changes }) (open_epoch known) held (λ inner holds. record {
       tables = λ id. rw tables (holds.tables id);
-      told = rw told holds.told;
+      epoch_status = rw epoch_status holds.epoch_status;
       changes = more ∙ ap (λ (all : List Change). all ++ changes) holds.changes;
     })
 
-pub statuses_taken : (before after : OpenEpoch) (end server : ℕ) (rows : List StatusRow) (told : Told) (known : List Known) → IsOpen (Some before) (open_epoch known) →
-    Tells told (map (λ row. (server, row)) rows ++ statuses_so_far known) → after.told ≡ told → after.tables ≡ before.tables → after.changes ≡ before.changes →
+pub statuses_taken : (before after : OpenEpoch) (end server : ℕ) (rows : List StatusRow) (epoch_status : EpochStatus) (known : List Known) → IsOpen (Some before) (open_epoch known) →
+    HoldsStatus epoch_status (map (λ row. (server, row)) rows ++ statuses_so_far known) → after.epoch_status ≡ epoch_status → after.tables ≡ before.tables → after.changes ≡ before.changes →
     IsOpen (Some after) (open_epoch (record { end = end; server = server; says = Statuses rows } ∷ known))
 unfolding open_epoch
-statuses_taken before after end server rows told known held tells same tables changes = go (open_epoch known) held tells
+statuses_taken before after end server rows epoch_status known held tells same tables changes = go (open_epoch known) held tells
   where
     event : Known
     event = record { end = end; server = server; says = Statuses rows }
 
-    go : (events : Option (List Known)) → IsOpen (Some before) events → Tells told (map (λ row. (server, row)) rows ++ option_map_or statuses_of events []) → IsOpen (Some after) (option_map (λ inner. event ∷ inner) events)
+    go : (events : Option (List Known)) → IsOpen (Some before) events → HoldsStatus epoch_status (map (λ row. (server, row)) rows ++ option_map_or statuses_of events []) → IsOpen (Some after) (option_map (λ inner. event ∷ inner) events)
     go None held tells = absurd held
     go (Some inner) holds tells = record {
       tables = λ id. rw tables (holds.tables id);
-      told = rw same tells;
+      epoch_status = rw same tells;
       changes = rw changes (holds.changes ∙ sym (append-nil _));
     }
 
--- the same where no epoch is open
+-- a table map outside an epoch
 pub map_outside : (current : Option OpenEpoch) (end server : ℕ) (table : Mapped) (known : List Known) → current ≡ None → IsOpen current (open_epoch known) → IsOpen current (open_epoch (record { end = end; server = server; says = Maps table } ∷ known))
 unfolding open_epoch
 map_outside (Some epoch) end server table known is held = absurd (let no : ◌≡◌ {A = Option OpenEpoch} (Some epoch) None = is in cc)
@@ -91,12 +91,12 @@ unfolding open_epoch
 statuses_outside (Some epoch) end server rows known is held = absurd (let no : ◌≡◌ {A = Option OpenEpoch} (Some epoch) None = is in cc)
 statuses_outside None end server rows known is held = none_open (record { end = end; server = server; says = Statuses rows }) (open_epoch known) held
 
--- an event that leaves what is open as it was
+-- an event that leaves the open epoch unchanged
 same_epoch : (current : Option OpenEpoch) (event : Known) (events : Option (List Known)) → ((epoch : OpenEpoch) (inner : List Known) → HoldsEpoch epoch inner → HoldsEpoch epoch (event ∷ inner)) → IsOpen current events → IsOpen current (option_map (λ inner. event ∷ inner) events)
 same_epoch None event events step held = none_open event events held
 same_epoch (Some epoch) event events step held = with_event epoch epoch event events held (step epoch)
 
--- what was taken of an event that says this
+-- the result of taking an event with this content
 abbrev pub IsTaken : Option OpenEpoch → (end server : ℕ) → List Step → (known : List Known) → Content → Type 0
 IsTaken current end server given known says =
     (has_statuses known server says ≡ true) × IsOpen current (open_epoch (record { end = end; server = server; says = says } ∷ known)) × (given ≡ step_of known (record { end = end; server = server; says = says }))
@@ -104,23 +104,23 @@ IsTaken current end server given known says =
 pub formats_taken : (current : Option OpenEpoch) (end server : ℕ) (known : List Known) (says : Content) → says ≡ Formats → IsOpen current (open_epoch known) → IsTaken current end server (steps.Format ∷ []) known says
 unfolding open_epoch
 formats_taken current end server known says is held = subst (IsTaken current end server (steps.Format ∷ []) known) (sym is)
-    (refl, same_epoch current (record { end = end; server = server; says = Formats }) (open_epoch known) (λ epoch inner holds. record { tables = holds.tables; told = holds.told; changes = holds.changes ∙ sym (append-nil _) }) held, refl)
+    (refl, same_epoch current (record { end = end; server = server; says = Formats }) (open_epoch known) (λ epoch inner holds. record { tables = holds.tables; epoch_status = holds.epoch_status; changes = holds.changes ∙ sym (append-nil _) }) held, refl)
 
 pub rotates_taken : (current : Option OpenEpoch) (end server : ℕ) (known : List Known) (says : Content) (to : RotateTo) → says ≡ Rotates to → IsOpen current (open_epoch known) → IsTaken current end server (steps.Rotate to.position to.name ∷ []) known says
 unfolding open_epoch
 rotates_taken current end server known says to is held = subst (IsTaken current end server (steps.Rotate to.position to.name ∷ []) known) (sym is)
-    (refl, same_epoch current (record { end = end; server = server; says = Rotates to }) (open_epoch known) (λ epoch inner holds. record { tables = holds.tables; told = holds.told; changes = holds.changes ∙ sym (append-nil _) }) held, refl)
+    (refl, same_epoch current (record { end = end; server = server; says = Rotates to }) (open_epoch known) (λ epoch inner holds. record { tables = holds.tables; epoch_status = holds.epoch_status; changes = holds.changes ∙ sym (append-nil _) }) held, refl)
 
 pub skipped_taken : (current : Option OpenEpoch) (end server : ℕ) (known : List Known) (says : Content) → says ≡ Skipped → IsOpen current (open_epoch known) → IsTaken current end server [] known says
 unfolding open_epoch
 skipped_taken current end server known says is held = subst (IsTaken current end server [] known) (sym is)
-    (refl, same_epoch current (record { end = end; server = server; says = Skipped }) (open_epoch known) (λ epoch inner holds. record { tables = holds.tables; told = holds.told; changes = holds.changes ∙ sym (append-nil _) }) held, refl)
+    (refl, same_epoch current (record { end = end; server = server; says = Skipped }) (open_epoch known) (λ epoch inner holds. record { tables = holds.tables; epoch_status = holds.epoch_status; changes = holds.changes ∙ sym (append-nil _) }) held, refl)
 
 pub begins_taken : (epoch : OpenEpoch) (end server : ℕ) (known : List Known) (says : Content) → says ≡ Begins → HoldsEpoch epoch [] → IsTaken (Some epoch) end server [] known says
 unfolding open_epoch
 begins_taken epoch end server known says is holds = subst (IsTaken (Some epoch) end server [] known) (sym is) (refl, holds, refl)
 
--- the end of an epoch
+-- the tables at the end of an epoch
 same_tables : (f g : ℕ → List Mapped) → ((id : ℕ) → f id ≡ g id) → (ids : List ℕ) → flat_map f ids ≡ flat_map g ids
 same_tables f g same [] = refl
 same_tables f g same (id ∷ ids) = ap₂ (λ (front rest : List Mapped). front ++ rest) (same id) (same_tables f g same ids)
@@ -135,24 +135,24 @@ tables_are epoch events holds =
     ∙ same_tables (λ id. option_to_list (table_in epoch id)) (λ id. option_map_or (λ table. table ∷ []) (find (λ table. table.id == id) (maps_of events)) [])
     (λ id. ap option_to_list (holds.tables id) ∙ listed (find (λ table. table.id == id) (maps_of events))) (tables_named (changes_read events))
 
-first_of_one : (row : Option StatusRow) (rows : List StatusRow) → option_to_list row ≡ rows → option_map (λ told. told.epoch) row ≡ first_epoch_of rows
+first_of_one : (row : Option StatusRow) (rows : List StatusRow) → option_to_list row ≡ rows → option_map (λ epoch_status. epoch_status.epoch) row ≡ first_epoch_of rows
 first_of_one None rows is = ap first_epoch_of is
 first_of_one (Some row) rows is = ap first_epoch_of is
 
--- the body that an epoch makes
-pub body_is : (epoch : OpenEpoch) (events : List Known) (server : ℕ) (row : StatusRow) → HoldsEpoch epoch events → epoch.told.own ≡ Some row →
-    record { server = server; epoch = row.epoch; reflected = option_map (λ told. told.epoch) epoch.told.other; tables = named_tables epoch; changes = epoch.changes.items } ≡ body_read events server
+-- the body of an epoch that ends
+pub body_is : (epoch : OpenEpoch) (events : List Known) (server : ℕ) (row : StatusRow) → HoldsEpoch epoch events → epoch.epoch_status.own ≡ Some row →
+    record { server = server; epoch = row.epoch; reflected = option_map (λ epoch_status. epoch_status.epoch) epoch.epoch_status.other; tables = named_tables epoch; changes = epoch.changes.items } ≡ body_read events server
 body_is epoch events server row holds own =
     let first : row.epoch ≡ unwrap_or (first_epoch_of (own_rows (statuses_of events))) (record { 0 = 0 }) =
-    ap (λ (told : Option Epoch). unwrap_or told (record { 0 = 0 })) (sym (ap (λ (told : Option StatusRow). option_map (λ one. one.epoch) told) own) ∙ first_of_one epoch.told.own (own_rows (statuses_of events)) holds.told.own) in
-    let other = first_of_one epoch.told.other (other_rows (statuses_of events)) holds.told.other in
-    ap (λ (e : Epoch). record { server = server; epoch = e; reflected = option_map (λ told. told.epoch) epoch.told.other; tables = named_tables epoch; changes = epoch.changes.items }) first
+    ap (λ (epoch_status : Option Epoch). unwrap_or epoch_status (record { 0 = 0 })) (sym (ap (λ (epoch_status : Option StatusRow). option_map (λ one. one.epoch) epoch_status) own) ∙ first_of_one epoch.epoch_status.own (own_rows (statuses_of events)) holds.epoch_status.own) in
+    let other = first_of_one epoch.epoch_status.other (other_rows (statuses_of events)) holds.epoch_status.other in
+    ap (λ (e : Epoch). record { server = server; epoch = e; reflected = option_map (λ epoch_status. epoch_status.epoch) epoch.epoch_status.other; tables = named_tables epoch; changes = epoch.changes.items }) first
     ∙ ap (λ (r : Option Epoch). record { server = server; epoch = unwrap_or (first_epoch_of (own_rows (statuses_of events))) (record { 0 = 0 }); reflected = r; tables = named_tables epoch; changes = epoch.changes.items }) other
     ∙ ap (λ (t : List Mapped). record { server = server; epoch = unwrap_or (first_epoch_of (own_rows (statuses_of events))) (record { 0 = 0 }); reflected = first_epoch_of (other_rows (statuses_of events)); tables = t; changes = epoch.changes.items }) (tables_are epoch events holds)
     ∙ ap (λ (c : List Change). record { server = server; epoch = unwrap_or (first_epoch_of (own_rows (statuses_of events))) (record { 0 = 0 }); reflected = first_epoch_of (other_rows (statuses_of events)); tables = tables_read events (changes_read events); changes = c }) holds.changes
 
 pub ends_taken : (current after : Option OpenEpoch) (epoch : OpenEpoch) (at end server : ℕ) (known : List Known) (own : Epoch) (tables : List Mapped) (body : EpochBody) → current ≡ Some epoch → after ≡ None → IsOpen current (open_epoch known) →
-    Closes epoch at server (Ok (own, tables)) → body ≡ record { server = server; epoch = own; reflected = option_map (λ told. told.epoch) epoch.told.other; tables = tables; changes = epoch.changes.items } →
+    Closes epoch at server (Ok (own, tables)) → body ≡ record { server = server; epoch = own; reflected = option_map (λ epoch_status. epoch_status.epoch) epoch.epoch_status.other; tables = tables; changes = epoch.changes.items } →
     IsTaken after end server (steps.Epoch body end ∷ []) known Ends
 unfolding open_epoch
 ends_taken current after epoch at end server known own tables body is none held (row, mine, serves, first, named) made =
@@ -162,14 +162,14 @@ ends_taken current after epoch at end server known own tables body is none held 
     event = record { end = end; server = server; says = Ends }
 
     go : (events : Option (List Known)) → IsOpen (Some epoch) events →
-        (list_any (λ told. told.server == server) (own_rows (option_map_or statuses_of events [])) ≡ true) × IsOpen after None × (steps.Epoch body end ∷ [] ≡ option_map_or (λ inner. steps.Epoch (body_read inner server) end ∷ []) events [])
+        (list_any (λ epoch_status. epoch_status.server == server) (own_rows (option_map_or statuses_of events [])) ≡ true) × IsOpen after None × (steps.Epoch body end ∷ [] ≡ option_map_or (λ inner. steps.Epoch (body_read inner server) end ∷ []) events [])
     go None holds = absurd holds
     go (Some inner) holds =
-        let rows : row ∷ [] ≡ own_rows (statuses_of inner) = sym (ap option_to_list mine) ∙ holds.told.own in (
-          ap (λ (all : List StatusRow). list_any (λ told. told.server == server) all) (sym rows) ∙ ap (λ (b : Bool). b || false) (let same : (row.server == server) ≡ true = grind (arith, nat_tests) in same),
+        let rows : row ∷ [] ≡ own_rows (statuses_of inner) = sym (ap option_to_list mine) ∙ holds.epoch_status.own in (
+          ap (λ (all : List StatusRow). list_any (λ epoch_status. epoch_status.server == server) all) (sym rows) ∙ ap (λ (b : Bool). b || false) (let same : (row.server == server) ≡ true = grind (arith, nat_tests) in same),
           subst (λ (o : Option OpenEpoch). IsOpen o None) (sym none) tt,
           ap (λ (b : EpochBody). steps.Epoch b end ∷ []) (made
-              ∙ ap (λ (e : Epoch). record { server = server; epoch = e; reflected = option_map (λ told. told.epoch) epoch.told.other; tables = tables; changes = epoch.changes.items }) first
-              ∙ ap (λ (t : List Mapped). record { server = server; epoch = row.epoch; reflected = option_map (λ told. told.epoch) epoch.told.other; tables = t; changes = epoch.changes.items }) named
+              ∙ ap (λ (e : Epoch). record { server = server; epoch = e; reflected = option_map (λ epoch_status. epoch_status.epoch) epoch.epoch_status.other; tables = tables; changes = epoch.changes.items }) first
+              ∙ ap (λ (t : List Mapped). record { server = server; epoch = row.epoch; reflected = option_map (λ epoch_status. epoch_status.epoch) epoch.epoch_status.other; tables = t; changes = epoch.changes.items }) named
               ∙ body_is epoch inner server row holds mine),
         )

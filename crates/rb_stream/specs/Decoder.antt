@@ -1,4 +1,4 @@
--- What a decoder stands for, and what it answers next.
+-- What a decoder represents, and what its next step is.
 use Rattle.std.specs.Prelude.{◌≡◌, ◌+◌, ◌++◌, ℕ, List, [], ◌∷◌, length, Option, Some, None, Result, Ok, Err}
 use Rattle.rb_base.specs.declared.faults.Field.{Field}
 use Rattle.rb_read_defs.specs.Stream.{Known, seen_of, steps_of, step_of, settled_at}
@@ -9,19 +9,19 @@ use Rattle.rb_stream.specs.declared.fault.StreamFault.{StreamFault}
 use Rattle.rb_stream.specs.declared.fault.StreamFault.TheVariants as faults
 use Rattle.rb_stream.specs.declared.decoder.Decoder.{Decoder}
 
--- the position behind all bytes that a decoder was fed
+-- the position after all bytes that a decoder was fed
 abbrev pub fed_to : Decoder → ℕ
 fed_to decoder = decoder.at + length decoder.unread
 
--- a decoder that began at this position and was fed these bytes has answered for these events, the newest first, which are the first
--- ones of those that are seen
+-- a decoder began at this position, was fed these bytes, and has returned the steps of these
+-- events, the newest first; they are the first events that can be read of the bytes
 pub record StandsFor (decoder : Decoder) (position : ℕ) (bytes : List ℕ) (passed : List Known) : Type 0 where
   pub fed : fed_to decoder ≡ position + length bytes
   pub seen : (later : List Known) × ((seen_of position bytes).known ≡ later ++ passed)
   pub settled : decoder.settled ≡ settled_at position passed
   pub ahead : IsAheadOf decoder position bytes passed
 
--- a step that is given behind these events: events that give none, and then one that gives it
+-- a step that follows these events: some events give no step, and then an event gives this one
 pub record GivesStep (passed : List Known) (step : Step) (now : List Known) : Type 0 where
   pub quiet : List Known
   pub silent : steps_of (quiet ++ passed) ≡ steps_of passed
@@ -29,12 +29,14 @@ pub record GivesStep (passed : List Known) (step : Step) (now : List Known) : Ty
   pub events : now ≡ event ∷ (quiet ++ passed)
   pub given : step_of (quiet ++ passed) event ≡ step ∷ []
 
--- all events of the bytes give no step behind these, and what is behind them is bad in this, or in nothing
+-- after these events no further event of the bytes gives a step, and the reading of the bytes ends
+-- with this fault, or with none
 pub record GivesNoStep (position : ℕ) (bytes : List ℕ) (passed : List Known) (bad : Option (ℕ × Field)) : Type 0 where
   pub silent : steps_of (seen_of position bytes).known ≡ steps_of passed
   pub fault : (seen_of position bytes).fault ≡ bad
 
--- what a decoder that was fed these bytes answers behind these events, and what it stands for then
+-- the result of a decoder that was fed these bytes and has returned the steps of these events, and
+-- what the decoder represents afterwards
 abbrev pub Answers : (position : ℕ) → (bytes : List ℕ) → (passed : List Known) → Result Step StreamFault → (decoder : Decoder) → Type 0
 Answers position bytes passed (Ok steps.NeedMore) decoder = GivesNoStep position bytes passed None × StandsFor decoder position bytes (seen_of position bytes).known
 Answers position bytes passed (Ok step) decoder = (now : List Known) × GivesStep passed step now × StandsFor decoder position bytes now

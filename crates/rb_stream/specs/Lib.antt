@@ -4,4 +4,4 @@ pub mod Epoch
 pub mod Fault
 pub mod Next
 pub mod Taking
-pub mod Told
+pub mod EpochStatus

@@ -1,4 +1,4 @@
--- How a decoder goes from event to event.
+-- How a decoder gets from event to event.
 use Rattle.std.specs.Prelude.{◌≡◌, ℕ, ◌+◌, ◌≤◌, Bool, true, false, if◌then◌else◌, List, [], ◌∷◌, ◌++◌, length, take, drop, Option, Some, None, Result, Ok, Err, option_to_list}
 use Rattle.rb_read_defs.specs.Reading.{Read}
 use Rattle.rb_read_defs.specs.Events.{header}
@@ -19,7 +19,7 @@ pub record Knows (decoder : Decoder) (known : List Known) : Type 0 where
   pub rotated : decoder.rotated ≡ is_rotated known
   pub current : IsOpen decoder.current (open_epoch known)
 
--- a decoder stands where it stood, behind the same events
+-- a decoder is unchanged and still follows these events
 pub record Stays (known : List Known) (before after : Decoder) : Type 0 where
   pub knows : Knows after known
   pub at : after.at ≡ before.at
@@ -27,26 +27,29 @@ pub record Stays (known : List Known) (before after : Decoder) : Type 0 where
   pub magic_due : after.magic_due ≡ before.magic_due
   pub counted : after.counted ≡ before.counted
 
--- a log goes on with these bytes at this position behind these events: however it goes on, it is seen as from there; where the magic
--- number is due, none of it was gone past
+-- after these events a log continues with the bytes `unread` at position `at`: whatever bytes
+-- follow, the reading of the whole is the reading from there; if the magic number comes next, no
+-- byte of the log is decoded yet
 abbrev pub GoesOn : (magic_due : Bool) → (position : ℕ) → (bytes : List ℕ) → (known : List Known) → (at : ℕ) → (unread : List ℕ) → Type 0
 GoesOn true position bytes known at unread = (position ≡ 0) × (at ≡ 0) × (bytes ≡ unread) × (known ≡ [])
 GoesOn false position bytes known at unread = (more : List ℕ) → seen_of position (bytes ++ more) ≡ seen_from known (cuts at (unread ++ more))
 
--- a decoder that began at this position and was fed these bytes has gone past these events
+-- a decoder that began at this position and was fed these bytes has decoded these events
 pub record StandsAt (decoder : Decoder) (position : ℕ) (bytes : List ℕ) (known : List Known) : Type 0 where
   pub fed : decoder.at + length decoder.unread ≡ position + length bytes
   pub on : GoesOn decoder.magic_due position bytes known decoder.at decoder.unread
   pub counted : decoder.counted ≡ settled_at position known
   pub knows : Knows decoder known
 
--- it has answered for these events, and may have gone past more, which give no step
+-- a decoder has returned the steps of these events, and may have decoded further events that give
+-- no step
 pub record IsAheadOf (decoder : Decoder) (position : ℕ) (bytes : List ℕ) (passed : List Known) : Type 0 where
   pub quiet : List Known
   pub silent : steps_of (quiet ++ passed) ≡ steps_of passed
   pub stands : StandsAt decoder position bytes (quiet ++ passed)
 
--- the first event of these bytes, which start at this position behind events that are known, is whole, and read as this
+-- the first event of these bytes, which start at this position after these known events, is
+-- complete, is good, and has this header and content
 pub record Reads (at : ℕ) (unread : List ℕ) (known : List Known) (head : Header) (says : Content) : Type 0 where
   pub long : 19 ≤ length unread
   pub whole : head.size ≤ length unread
@@ -56,29 +59,31 @@ pub record Reads (at : ℕ) (unread : List ℕ) (known : List Known) (head : Hea
   pub place : ℕ
   pub content_read : content_in at known head (drop 19 (take head.size unread)) 0 ≡ Read says place
 
--- what comes next in these bytes: an event; nothing that is whole; or an event that is bad
+-- what the bytes begin with: a good event, no complete event, or a bad event
 abbrev pub Meets : (at : ℕ) → (unread : List ℕ) → (known : List Known) → Result (Option (Header × Content)) StreamFault → Type 0
 Meets at unread known (Ok (Some event)) = Reads at unread known event.0 event.1
 Meets at unread known (Ok None) = seen_from known (cuts at unread) ≡ record { known = known; fault = None }
 Meets at unread known (Err (faults.BadEvent place field)) = seen_from known (cuts at unread) ≡ record { known = known; fault = Some (place, field) }
 Meets at unread known (Err faults.NoMemory) = Unit {0}
 
--- the header that comes next: a good one; nothing that is whole; or one that is bad
+-- what the bytes begin with: the header of a good event, no complete event, or a bad header
 abbrev pub MeetsHeader : (at : ℕ) → (unread : List ℕ) → (known : List Known) → Result (Option Header) StreamFault → Type 0
 MeetsHeader at unread known (Ok (Some head)) = (19 ≤ length unread) × (header_fault at known head ≡ None) × ((after : ℕ) × (header at unread 0 ≡ Read head after))
 MeetsHeader at unread known (Ok None) = seen_from known (cuts at unread) ≡ record { known = known; fault = None }
 MeetsHeader at unread known (Err (faults.BadEvent place field)) = seen_from known (cuts at unread) ≡ record { known = known; fault = Some (place, field) }
 MeetsHeader at unread known (Err faults.NoMemory) = Unit {0}
 
--- what a decoder does with the magic number: it goes past it; it is not there; or other bytes are
+-- what a decoder does with the magic number: it skips it, it waits for more bytes, or it finds
+-- other bytes
 abbrev pub PassesMagic : (position : ℕ) → (bytes : List ℕ) → Result Bool StreamFault → Decoder → Type 0
 PassesMagic position bytes (Ok true) decoder = (decoder.magic_due ≡ false) × StandsAt decoder position bytes []
 PassesMagic position bytes (Ok false) decoder = (seen_of position bytes ≡ record { known = []; fault = None }) × StandsAt decoder position bytes []
 PassesMagic position bytes (Err (faults.BadEvent at field)) decoder = (seen_of position bytes ≡ record { known = []; fault = Some (at, field) }) × StandsAt decoder position bytes []
 PassesMagic position bytes (Err faults.NoMemory) decoder = ⊥
 
--- a decoder goes past an event with this header, behind events that are known: it gives the step that was answered; or its apply-status
--- rows make it bad, or there was no memory, and the decoder stands where it stood
+-- what a decoder does with a complete event of this header and content: it takes the event and
+-- returns its step; or it stays, since the event's apply-status rows make it bad or memory
+-- allocation failed
 abbrev pub GoesPast : (known : List Known) → Header → Content → Result (Option Step) StreamFault → (before after : Decoder) → Type 0
 GoesPast known head says (Ok given) before after =
     let event : Known = record { end = before.at + head.size; server = head.server; says = says } in
@@ -89,13 +94,14 @@ GoesPast known head says (Err (faults.BadEvent place field)) before after =
     (has_statuses known head.server says ≡ false) × (place ≡ before.at) × (field ≡ Status) × Stays known before after
 GoesPast known head says (Err faults.NoMemory) before after = Stays known before after
 
--- all events of the bytes give no step behind these, and a decoder stands behind them; what comes next is bad in this, or in nothing
+-- a decoder has decoded all events that can be read of the bytes, none of them after `passed` gives
+-- a step, and the reading ends with this fault, or with none
 pub record EndsQuiet (position : ℕ) (bytes : List ℕ) (passed : List Known) (bad : Option (ℕ × Field)) (decoder : Decoder) : Type 0 where
   pub silent : steps_of (seen_of position bytes).known ≡ steps_of passed
   pub fault : (seen_of position bytes).fault ≡ bad
   pub stands : StandsAt decoder position bytes (seen_of position bytes).known
 
--- the same answer, before it counts: what a decoder stands at then
+-- the result of a decoder and the events that it has decoded, before it counts the step as returned
 abbrev pub AnswersAhead : (position : ℕ) → (bytes : List ℕ) → (passed : List Known) → Result Step StreamFault → Decoder → Type 0
 AnswersAhead position bytes passed (Ok steps.NeedMore) decoder = EndsQuiet position bytes passed None decoder
 AnswersAhead position bytes passed (Ok step) decoder =

@@ -18,7 +18,7 @@ use rb_read_defs::{Content, Header, QueryText};
 use rb_rows::{read_rows, read_status};
 use std::alloc::Global;
 
-/// What an event at this position says, behind the events of the epoch that is open.
+/// Returns the content of an event at this position, given the open epoch.
 #[tactic(auto, unfolding(rb_read_defs::specs::Stream::content_in))]
 pub(crate) fn read_content(
     alloc: Global,
@@ -28,7 +28,8 @@ pub(crate) fn read_content(
     payload: &[u8],
 ) -> Result<Content, CodecFault>
     ensures read { (earlier : List Known) → IsOpen current.now (open_epoch earlier) →
-        result ≢ Err CodecOutOfMemory → result ≡ answer_of (content_in at earlier header payload.now 0) }
+        result ≢ Err CodecOutOfMemory →
+        result ≡ answer_of (content_in at earlier header payload.now 0) }
     ensures columns { IfOk result MapsColumns }
 {
     if header.kind == QUERY_EVENT {
@@ -52,9 +53,10 @@ pub(crate) fn read_content(
     Ok(Content::Skipped)
 }
 
-/// BEGIN outside an epoch, or COMMIT in one.
+/// Reads BEGIN outside an epoch, or COMMIT within one.
 fn read_mark(current: &Option<OpenEpoch>, at: u64, payload: &[u8]) -> Result<Content, CodecFault>
-    ensures read { (earlier : List Known) → IsOpen current.now (open_epoch earlier) → result ≡ answer_of (query_in at earlier payload.now 0) }
+    ensures read { (earlier : List Known) → IsOpen current.now (open_epoch earlier) →
+        result ≡ answer_of (query_in at earlier payload.now 0) }
     ensures columns { IfOk result MapsColumns }
 {
     match read_query(payload)? {
@@ -69,15 +71,16 @@ fn read_mark(current: &Option<OpenEpoch>, at: u64, payload: &[u8]) -> Result<Con
     }
 }
 
-/// Where the log goes on.
+/// Reads a rotate event.
 fn read_rotation(alloc: Global, payload: &[u8]) -> Result<Content, CodecFault>
-    ensures read { result ≢ Err CodecOutOfMemory → result ≡ answer_of (said rotate Rotates payload.now 0) }
+    ensures read { result ≢ Err CodecOutOfMemory →
+        result ≡ answer_of (said rotate Rotates payload.now 0) }
     ensures columns { IfOk result MapsColumns }
 {
     Ok(Content::Rotates(read_rotate(alloc, payload)?))
 }
 
-/// That the log can be read.
+/// Reads a format description and checks that the format can be read.
 fn read_formats(payload: &[u8]) -> Result<Content, CodecFault>
     ensures read { result ≡ answer_of (said format (λ unit. Formats) payload.now 0) }
     ensures columns { IfOk result MapsColumns }
@@ -86,7 +89,7 @@ fn read_formats(payload: &[u8]) -> Result<Content, CodecFault>
     Ok(Content::Formats)
 }
 
-/// The end of an epoch.
+/// Reads the XID that ends an epoch.
 fn read_end(payload: &[u8]) -> Result<Content, CodecFault>
     ensures read { result ≡ answer_of (said xid (λ number. EndsEpoch) payload.now 0) }
     ensures columns { IfOk result MapsColumns }
@@ -95,15 +98,16 @@ fn read_end(payload: &[u8]) -> Result<Content, CodecFault>
     Ok(Content::Ends)
 }
 
-/// What a table id means.
+/// Reads a table map.
 fn read_map(alloc: Global, payload: &[u8]) -> Result<Content, CodecFault>
-    ensures read { result ≢ Err CodecOutOfMemory → result ≡ answer_of (said table_map Maps payload.now 0) }
+    ensures read { result ≢ Err CodecOutOfMemory →
+        result ≡ answer_of (said table_map Maps payload.now 0) }
     ensures columns { IfOk result MapsColumns }
 {
     Ok(Content::Maps(read_table_map(alloc, payload)?))
 }
 
-/// The rows of a table that the open epoch maps.
+/// Reads the rows of a table that the open epoch has mapped.
 fn read_rows_event(
     alloc: Global,
     current: &Option<OpenEpoch>,
@@ -130,7 +134,7 @@ fn read_rows_event(
     Ok(Content::Statuses(read_status(alloc, payload, table)?))
 }
 
-/// The kind of a rows event's changes, by its type.
+/// Returns the kind of the changes in a rows event of this type.
 fn kind_of(kind: u8) -> Kind
     ensures { result ≡ kind_of kind }
 {

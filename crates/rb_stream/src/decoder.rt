@@ -9,48 +9,43 @@ use crate::order::order_fault;
 use crate::taking::take_content;
 use crate::unread::Unread;
 use rb_base::{CodecFault, Field, NoMemory};
-use rb_codec::read_header;
+use rb_codec::{HEADER_SIZE, MAGIC, read_header};
 use rb_read_defs::{Content, Header, Step};
 use std::alloc::Global;
 
-/// The first bytes of every binlog file.
-const MAGIC: [u8; 4] = [0xfe, b'b', b'i', b'n'];
-
-/// How many bytes the header of an event has.
-const HEADER_SIZE: usize = 19;
-
-/// A decoder of a binary log that comes in pieces.
+/// A decoder of a binary log whose bytes come in pieces.
 #[derive(Drop)]
 pub struct Decoder {
     alloc: Global,
-    /// The bytes that it has not gone past.
+    /// The bytes that are not decoded yet.
     unread: Unread,
-    /// Where they begin, in bytes from the file's start.
+    /// The position of these bytes in the file.
     at: u64,
-    /// The magic number comes next.
+    /// Whether the magic number comes next.
     magic_due: bool,
-    /// The last event that it went past rotates the log.
+    /// Whether the last decoded event is a rotation.
     rotated: bool,
-    /// The epoch that is open.
+    /// The open epoch, if one is open.
     current: Option<OpenEpoch>,
-    /// Where the last event ends, of those that it went past, behind which no epoch is open.
+    /// The end of the last decoded event after which no epoch is open.
     counted: u64,
-    /// The same, of those that it has answered for.
+    /// The value of `counted` when `next` last returned anything but `NoMemory`.
     settled: u64,
     ghost fits: { at + length unread < 2 ^ 64 },
-    ghost counted_behind: { counted ≤ at },
-    ghost settled_behind: { settled ≤ at },
+    ghost counted_after: { counted ≤ at },
+    ghost settled_after: { settled ≤ at },
 }
 
 impl Decoder {
     ghost use Rattle.std.specs.Prelude.{◌++◌, [], OnOk, OnErr, IfOk, IfSome, true, false};
-    ghost use Rattle.rb_read_defs.specs.Stream.{rest_behind};
+    ghost use Rattle.rb_read_defs.specs.Stream.{rest_after};
     ghost use Rattle.rb_stream.specs.Content.{MapsColumns};
     ghost use Rattle.rb_stream.specs.Decoder.{StandsFor, Answers, fed_to};
     ghost use Rattle.rb_stream.specs.Next.{Knows, StandsAt, IsAheadOf, AnswersAhead, PassesMagic, Meets, MeetsHeader, GoesPast};
 
-    /// A decoder that starts at this position of a file, in bytes from its start, and was fed nothing. At position 0
-    /// the magic number of the file comes first; at position 4 the first event is a format description.
+    /// Creates a decoder that starts at `position` of a file, in bytes, and has no bytes yet. At
+    /// position 0 the magic number of the file comes first. At position 4 the first event is a
+    /// format description.
     pub fn new(alloc: Global, position: u64) -> Decoder
         ensures { StandsFor result position [] [] }
     {
@@ -66,24 +61,29 @@ impl Decoder {
         }
     }
 
-    /// Appends a piece of the log. Without memory all is as before.
+    /// Appends the next piece of the log. If memory allocation fails, the decoder is unchanged.
     pub fn feed(&mut self, piece: &[u8]) -> Result<(), NoMemory>
         requires fits { fed_to self.old + length piece.now < 2 ^ 64 }
         ensures ok { OnOk result ((position : ℕ) (bytes : List ℕ) (passed : List Known) →
-            StandsFor self.old position bytes passed → StandsFor self.new position (bytes ++ piece.now) passed) }
+            StandsFor self.old position bytes passed →
+            StandsFor self.new position (bytes ++ piece.now) passed) }
         ensures err { OnErr result ((position : ℕ) (bytes : List ℕ) (passed : List Known) →
             StandsFor self.old position bytes passed → StandsFor self.new position bytes passed) }
     {
         self.unread.push(self.alloc, piece)
     }
 
-    /// The next step. `NeedMore` comes where what is left is shorter than the magic number, where it is due, than a
-    /// header, or than the event that a good header names.
-    /// `BadEvent` names the first event that is outside the grammar, by its position and the first wrong field; the
-    /// decoder stands there from then on, and answers the same each time. Without memory all is as before.
+    /// Decodes events until one of them gives a step, and returns the step.
+    ///
+    /// Returns `NeedMore` if the remaining bytes end before the magic number, the next header or
+    /// the next event does. Returns `BadEvent` with the position and the first wrong field of an
+    /// event that breaks the grammar. Every later call returns the same fault, since the decoder
+    /// stays at that event. Returns `NoMemory` if memory allocation fails; no step is lost, and the
+    /// call can be repeated.
     pub fn next(&mut self) -> Result<Step, StreamFault>
         ensures { (position : ℕ) (bytes : List ℕ) (passed : List Known) →
-            StandsFor self.old position bytes passed → Answers position bytes passed result self.new }
+            StandsFor self.old position bytes passed →
+            Answers position bytes passed result self.new }
     {
         match self.go_on() {
             Ok(step) => {
@@ -98,19 +98,24 @@ impl Decoder {
         }
     }
 
-    /// How many bytes were fed behind the last event that it has answered for and that stands outside an epoch or ends
-    /// one; BEGIN does neither. Where there is no such event, all bytes that were fed.
+    /// Returns the number of fed bytes after the last event that leaves no epoch open.
+    ///
+    /// BEGIN and the events within an epoch leave it open. Events that `next` decodes count when it
+    /// returns, except if it returns `NoMemory`. If no event counts yet, this is the number of all
+    /// fed bytes.
     pub fn rest(&self) -> u64
         ensures { (position : ℕ) (bytes : List ℕ) (passed : List Known) →
-            StandsFor self.now position bytes passed → result ≡ rest_behind position bytes passed }
+            StandsFor self.now position bytes passed → result ≡ rest_after position bytes passed }
     {
         self.at + self.unread.as_slice().len() as u64 - self.settled
     }
 
-    /// Goes past the magic number, where it is due, and past events up to the first one that gives a step.
+    /// Decodes the magic number if it comes next, and then events up to the first one that gives a
+    /// step.
     fn go_on(&mut self) -> Result<Step, StreamFault>
         ensures goes { (position : ℕ) (bytes : List ℕ) (passed : List Known) →
-            IsAheadOf self.old position bytes passed → AnswersAhead position bytes passed result self.new }
+            IsAheadOf self.old position bytes passed →
+            AnswersAhead position bytes passed result self.new }
         ensures settled { self.new.settled ≡ self.old.settled }
     {
         if self.magic_due {
@@ -119,11 +124,12 @@ impl Decoder {
         self.pass_events()
     }
 
-    /// The same where the magic number is due.
+    /// Decodes the magic number, and then events up to the first one that gives a step.
     fn begin(&mut self) -> Result<Step, StreamFault>
         requires due { self.old.magic_due ≡ true }
         ensures goes { (position : ℕ) (bytes : List ℕ) (passed : List Known) →
-            IsAheadOf self.old position bytes passed → AnswersAhead position bytes passed result self.new }
+            IsAheadOf self.old position bytes passed →
+            AnswersAhead position bytes passed result self.new }
         ensures settled { self.new.settled ≡ self.old.settled }
     {
         if !self.pass_magic()? {
@@ -132,11 +138,12 @@ impl Decoder {
         self.pass_events()
     }
 
-    /// The same where it is not.
+    /// Decodes events up to the first one that gives a step.
     fn pass_events(&mut self) -> Result<Step, StreamFault>
         requires due { self.old.magic_due ≡ false }
         ensures goes { (position : ℕ) (bytes : List ℕ) (passed : List Known) →
-            IsAheadOf self.old position bytes passed → AnswersAhead position bytes passed result self.new }
+            IsAheadOf self.old position bytes passed →
+            AnswersAhead position bytes passed result self.new }
         ensures settled { self.new.settled ≡ self.old.settled }
     {
         while let Some((header, content)) = self.next_event()? {
@@ -148,11 +155,12 @@ impl Decoder {
         Ok(Step::NeedMore)
     }
 
-    /// Goes past the magic number, where it is there.
+    /// Skips the magic number. Returns false if it is not complete yet.
     fn pass_magic(&mut self) -> Result<bool, StreamFault>
         requires due { self.old.magic_due ≡ true }
         ensures passed { IfOk result (λ there. there ≡ true → self.new.magic_due ≡ false) }
-        ensures passes { (position : ℕ) (bytes : List ℕ) → StandsAt self.old position bytes [] → PassesMagic position bytes result self.new }
+        ensures passes { (position : ℕ) (bytes : List ℕ) → StandsAt self.old position bytes [] →
+            PassesMagic position bytes result self.new }
         ensures settled { self.new.settled ≡ self.old.settled }
     {
         let unread = self.unread.as_slice();
@@ -168,12 +176,14 @@ impl Decoder {
         Ok(true)
     }
 
-    /// What the next event says, where it is whole.
+    /// Returns the header and the content of the next event, or `None` if it is not complete yet.
     fn next_event(&self) -> Result<Option<(Header, Content)>, StreamFault>
-        ensures meets { (known : List Known) → Knows self.now known → Meets self.now.at self.now.unread known result }
+        ensures meets { (known : List Known) → Knows self.now known →
+            Meets self.now.at self.now.unread known result }
         ensures columns { IfOk result (λ next. IfSome next (λ event. MapsColumns event.1)) }
         ensures some { IfOk result (λ next. IfSome next (λ event. 19 ≤ event.0.size)) }
-        ensures whole { IfOk result (λ next. IfSome next (λ event. event.0.size ≤ length self.now.unread)) }
+        ensures whole { IfOk result (λ next.
+            IfSome next (λ event. event.0.size ≤ length self.now.unread)) }
     {
         let Some(header) = self.next_header()? else {
             return Ok(None);
@@ -189,9 +199,10 @@ impl Decoder {
         }
     }
 
-    /// The next event's header, where it is there and good.
+    /// Returns the header of the next event, or `None` if it is not complete yet.
     fn next_header(&self) -> Result<Option<Header>, StreamFault>
-        ensures meets { (known : List Known) → Knows self.now known → MeetsHeader self.now.at self.now.unread known result }
+        ensures meets { (known : List Known) → Knows self.now known →
+            MeetsHeader self.now.at self.now.unread known result }
         ensures some { IfOk result (λ next. IfSome next (λ head. 19 ≤ head.size)) }
     {
         let unread = self.unread.as_slice();
@@ -209,12 +220,14 @@ impl Decoder {
         }
     }
 
-    /// Goes past an event with this header that says this, and answers the step that it gives.
+    /// Takes the next event, which has this header and content, and returns its step if it gives
+    /// one.
     fn take(&mut self, header: Header, content: Content) -> Result<Option<Step>, StreamFault>
         requires columns { MapsColumns content }
         requires some { 19 ≤ header.size }
         requires whole { header.size ≤ length self.old.unread }
-        ensures goes { (known : List Known) → Knows self.old known → GoesPast known header content result self.old self.new }
+        ensures goes { (known : List Known) → Knows self.old known →
+            GoesPast known header content result self.old self.new }
         ensures settled { self.new.settled ≡ self.old.settled }
         ensures due { self.new.magic_due ≡ self.old.magic_due }
         ensures shorter { OnOk result (length self.new.unread < length self.old.unread) }
@@ -232,26 +245,28 @@ impl Decoder {
         self.rotated = rotates;
         self.unread.skip(header.size as usize);
         self.at = end;
-        self.counted = counted_behind(self.current.is_some(), end, self.counted);
+        self.counted = counted_after(self.current.is_some(), end, self.counted);
         Ok(step)
     }
 }
 
-/// Whether an event that says this rotates the log.
+/// Returns whether an event with this content is a rotation.
 fn rotates(content: &Content) -> bool
-    ensures { (end server : ℕ) (known : List Known) → result ≡ is_rotated (record { end = end; server = server; says = content.now } ∷ known) }
+    ensures { (end server : ℕ) (known : List Known) →
+        result ≡ is_rotated (record { end = end; server = server; says = content.now } ∷ known) }
 {
     matches!(content, Content::Rotates(_))
 }
 
-/// Where the last event ends that counts, behind one that ends here: it counts where no epoch is open behind it.
-fn counted_behind(is_inside: bool, end: u64, counted: u64) -> u64
+/// Returns the new `counted` after an event that ends at `end`: `end` itself if no epoch is open
+/// after the event, and otherwise the old value.
+fn counted_after(is_inside: bool, end: u64, counted: u64) -> u64
     ensures { result ≡ (if not is_inside then end else counted) }
 {
     if is_inside { counted } else { end }
 }
 
-/// The fault of an event at this position, of which this could not be read.
+/// Returns the fault of the event at this position, given the fault of reading a part of it.
 fn fault_at(at: u64, fault: CodecFault) -> StreamFault
     ensures { result ≡ fault_at at fault }
 {

@@ -5,17 +5,17 @@ ghost use Rattle.std.specs.BTreeMap.{get};
 ghost use Rattle.rb_codec.specs.Columns.{HasColumns};
 ghost use Rattle.rb_read_defs.specs.Stream.{among, tables_named};
 
-use crate::told::Told;
+use crate::epoch_status::EpochStatus;
 use rb_base::{Change, Changes, Epoch, EpochBody, Items, Mapped, MappedTables, NoMemory};
 use std::alloc::Global;
 use std::collections::BTreeMap;
 
-/// An epoch whose end was not seen yet.
+/// An epoch that has begun and not ended yet.
 #[derive(Drop)]
 pub(crate) struct OpenEpoch {
     /// The last map of each table id.
     tables: BTreeMap<u64, Mapped>,
-    told: Told,
+    epoch_status: EpochStatus,
     changes: Vec<Change>,
     ghost columns: { (id : ℕ) → ForSome (get nat_cmp tables id) HasColumns },
 }
@@ -23,18 +23,18 @@ pub(crate) struct OpenEpoch {
 impl OpenEpoch {
     ghost use Rattle.rb_stream.specs.Epoch.{HoldsEpoch, table_in, named_tables};
 
-    /// An epoch of which nothing but its begin was seen.
+    /// Creates an epoch of which only BEGIN was decoded.
     pub(crate) fn new(alloc: Global) -> OpenEpoch
         ensures { HoldsEpoch result [] }
     {
         OpenEpoch {
             tables: BTreeMap::new(alloc),
-            told: Told::nothing(),
+            epoch_status: EpochStatus::nothing(),
             changes: Vec::new(alloc),
         }
     }
 
-    /// The last map of a table id.
+    /// Returns the last map of a table id, if there is one.
     pub(crate) fn table(&self, id: u64) -> Option<&Mapped>
         ensures table { option_map (λ table. table.now) result ≡ table_in self.now id }
         ensures columns { IfSome result (λ table. HasColumns table.now) }
@@ -42,39 +42,41 @@ impl OpenEpoch {
         self.tables.get(&id)
     }
 
-    /// The rows of the apply-status table so far.
-    pub(crate) fn told(&self) -> Told
-        ensures { result ≡ self.now.told }
+    /// Returns the apply-status rows so far.
+    pub(crate) fn epoch_status(&self) -> EpochStatus
+        ensures { result ≡ self.now.epoch_status }
     {
-        self.told
+        self.epoch_status
     }
 
-    /// Notes these rows of the apply-status table in place of those so far.
-    pub(crate) fn tell(&mut self, told: Told)
-        ensures told { self.new.told ≡ told }
+    /// Replaces the apply-status rows.
+    pub(crate) fn set_status(&mut self, epoch_status: EpochStatus)
+        ensures epoch_status { self.new.epoch_status ≡ epoch_status }
         ensures tables { self.new.tables ≡ self.old.tables }
         ensures changes { self.new.changes ≡ self.old.changes }
     {
-        self.told = told;
+        self.epoch_status = epoch_status;
     }
 
-    /// Notes a table map. Without memory nothing changes.
+    /// Notes a table map in place of an earlier one with the same id. If memory allocation fails,
+    /// the epoch is unchanged.
     pub(crate) fn map(&mut self, table: Mapped) -> Result<(), NoMemory>
         requires { HasColumns table }
-        ensures ok { OnOk result ((id : ℕ) → table_in self.new id ≡ (if table.id == id then Some table else table_in self.old id)) }
+        ensures ok { OnOk result ((id : ℕ) →
+            table_in self.new id ≡ (if table.id == id then Some table else table_in self.old id)) }
         ensures err { OnErr result ((id : ℕ) → table_in self.new id ≡ table_in self.old id) }
-        ensures told { self.new.told ≡ self.old.told }
+        ensures epoch_status { self.new.epoch_status ≡ self.old.epoch_status }
         ensures changes { self.new.changes ≡ self.old.changes }
     {
         self.tables.insert(u64::from(table.id), table)?;
         Ok(())
     }
 
-    /// Appends changes. Without memory nothing changes.
+    /// Appends changes. If memory allocation fails, the epoch is unchanged.
     pub(crate) fn change(&mut self, changes: Changes) -> Result<(), NoMemory>
         ensures ok { OnOk result (self.new.changes.items ≡ self.old.changes.items ++ changes) }
         ensures err { OnErr result (self.new.changes.items ≡ self.old.changes.items) }
-        ensures told { self.new.told ≡ self.old.told }
+        ensures epoch_status { self.new.epoch_status ≡ self.old.epoch_status }
         ensures tables { self.new.tables ≡ self.old.tables }
     {
         let mut more = changes.into_vec();
@@ -82,7 +84,8 @@ impl OpenEpoch {
         Ok(())
     }
 
-    /// The tables that the changes name, ascending by id, each by the last map of its id.
+    /// Returns the tables of the epoch's changes, each by the last map of its id, in ascending
+    /// order of the ids.
     pub(crate) fn tables(&self, alloc: Global) -> Result<MappedTables, NoMemory>
         ensures { IfOk result (λ tables. tables ≡ named_tables self.now) }
     {
@@ -94,27 +97,35 @@ impl OpenEpoch {
         Ok(tables)
     }
 
-    /// The epoch as a server ends it, with these tables.
+    /// Returns the body of the epoch, which this server ends, with these tables.
     pub(crate) fn into_body(self, server: u32, epoch: Epoch, tables: MappedTables) -> EpochBody
-        ensures { result ≡ record { server = server; epoch = epoch; reflected = option_map (λ row. row.epoch) self.told.other; tables = tables; changes = self.changes.items } }
+        ensures { result ≡ record {
+          server = server;
+          epoch = epoch;
+          reflected = option_map
+              (λ row. row.epoch) self.epoch_status.other;
+          tables = tables;
+          changes = self.changes.items;
+        } }
     {
         EpochBody {
             server,
             epoch,
-            reflected: self.told.other.map(|row| row.epoch),
+            reflected: self.epoch_status.other.map(|row| row.epoch),
             tables,
             changes: Items::from_vec(self.changes),
         }
     }
 }
 
-/// Appends a copy of a table, where one is there.
+/// Appends a copy of the table, if there is one.
 fn push_copy(
     alloc: Global,
     tables: &mut MappedTables,
     table: Option<&Mapped>,
 ) -> Result<(), NoMemory>
-    ensures { OnOk result (tables.new ≡ tables.old ++ option_to_list (option_map (λ held. held.now) table.entry)) }
+    ensures { OnOk result (tables.new ≡ tables.old
+        ++ option_to_list (option_map (λ held. held.now) table.entry)) }
 {
     if let Some(table) = table {
         tables.push(table.copy(alloc)?)?;
@@ -122,8 +133,8 @@ fn push_copy(
     Ok(())
 }
 
-/// The ids of the tables that changes name, ascending, each once. An id that is new among them moves those above it,
-/// of which there are at most 65,535.
+/// Returns the id of every table that has a change, once and in ascending order. A new id moves the
+/// greater ids by one place, and there are at most 65,535 of those.
 fn named_ids(alloc: Global, changes: &[Change]) -> Result<Vec<u16>, NoMemory>
     ensures { IfOk result (λ ids. ids.items ≡ tables_named changes.now) }
 {
@@ -134,7 +145,7 @@ fn named_ids(alloc: Global, changes: &[Change]) -> Result<Vec<u16>, NoMemory>
     Ok(ids)
 }
 
-/// Notes an id among ascending ones, once.
+/// Inserts an id into ascending ids, unless it is already there.
 fn note(ids: &mut Vec<u16>, id: u16) -> Result<(), NoMemory>
     requires { (changes : List Change) × (ids.old.items ≡ tables_named changes) }
     ensures { OnOk result (ids.new.items ≡ among id ids.old.items) }

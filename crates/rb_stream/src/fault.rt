@@ -4,10 +4,10 @@ ghost use Rattle.rb_stream.specs.declared.fault.StreamFault.TheVariants.{NoMemor
 use rb_base::{Field, NoMemory};
 use std::alloc::{AllocError, AllocFailed};
 
-/// Why a decoder gave no step.
+/// The error of a decoder.
 #[derive(Clone, Copy, Debug, PartialEq, Eq)]
 pub enum StreamFault {
-    /// The event at this position, in bytes from the file's start, is outside the grammar: this field of it is wrong.
+    /// This field is wrong in the event at this position, in bytes from the start of the file.
     BadEvent(u64, Field),
     NoMemory,
 }

@@ -8,9 +8,11 @@ use rb_codec::{
 };
 use rb_read_defs::Header;
 
-/// Why an event with this header may not stand at this position, where it may not: behind a rotation nothing may.
+/// Returns the fault of an event with this header at this position, if it is not allowed there.
+/// After a rotation no event is allowed.
 pub(crate) fn order_fault(rotated: bool, inside: bool, at: u64, header: Header) -> Option<Field>
-    ensures { (known : List Known) → rotated ≡ is_rotated known → inside ≡ is_open known → result ≡ header_fault at known header }
+    ensures { (known : List Known) → rotated ≡ is_rotated known → inside ≡ is_open known →
+        result ≡ header_fault at known header }
 {
     if rotated {
         return Some(Field::AfterRotate);
@@ -21,8 +23,8 @@ pub(crate) fn order_fault(rotated: bool, inside: bool, at: u64, header: Header) 
     Some(Field::Order)
 }
 
-/// Whether an event of this type may stand at this position, where an epoch is open or none is. Of a query its text
-/// decides.
+/// Returns whether an event of this type is allowed at this position, within an epoch or outside. A
+/// query event is always allowed here, since its text decides.
 fn is_in_order(inside: bool, at: u64, kind: u8) -> bool
     ensures { (known : List Known) → inside ≡ is_open known → result ≡ is_in_order at known kind }
 {

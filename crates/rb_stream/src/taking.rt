@@ -3,20 +3,22 @@ ghost use Rattle.rb_read_defs.specs.Stream.{Known, open_epoch, statuses_so_far};
 ghost use Rattle.rb_read_defs.specs.declared.answers.Content.TheVariants as contents;
 ghost use Rattle.rb_stream.specs.Content.{MapsColumns};
 ghost use Rattle.rb_stream.specs.Epoch.{IsOpen};
-ghost use Rattle.rb_stream.specs.Told.{Tells};
+ghost use Rattle.rb_stream.specs.EpochStatus.{HoldsStatus};
 ghost use Rattle.rb_stream.specs.Taking.{Takes, Closes};
 ghost use Rattle.rb_codec.specs.Columns.{HasColumns};
 
 use crate::epoch::OpenEpoch;
+use crate::epoch_status::EpochStatus;
 use crate::fault::StreamFault;
-use crate::told::Told;
 use rb_base::{Changes, Epoch, Field, Mapped, MappedTables};
 use rb_read_defs::{Content, RotateTo, StatusRow, Step};
 use std::alloc::Global;
 
-/// Takes what an event of this server says, which starts at `at` and ends at `end`, into the epoch that is open, and
-/// answers the step that it gives. An event that only an open epoch can have changes nothing where none is open; an end
-/// there is a bad event.
+/// Adds the content of an event to the open epoch, and returns the step that the event gives, if
+/// any. The event starts at `at` and ends at `end`; the server `server` wrote it.
+///
+/// Without an open epoch, a table map, changes and apply-status rows change nothing, and the end of
+/// an epoch is a bad event.
 pub(crate) fn take_content(
     alloc: Global,
     current: &mut Option<OpenEpoch>,
@@ -44,7 +46,7 @@ pub(crate) fn take_content(
     }
 }
 
-/// A table map in the epoch that is open.
+/// Adds a table map to the open epoch.
 fn take_map(
     current: &mut Option<OpenEpoch>,
     at: u64,
@@ -54,7 +56,8 @@ fn take_map(
 ) -> Result<Option<Step>, StreamFault>
     requires columns { HasColumns table }
     ensures { (known : List Known) → IsOpen current.old (open_epoch known) →
-        Takes at known (record { end = end; server = server; says = contents.Maps table }) result current.new }
+        Takes at known (record { end = end; server = server; says = contents.Maps table }) result
+        current.new }
 {
     match current {
         Some(epoch) => epoch.map(table)?,
@@ -63,7 +66,7 @@ fn take_map(
     Ok(None)
 }
 
-/// Changes in the epoch that is open.
+/// Adds changes to the open epoch.
 fn take_changes(
     current: &mut Option<OpenEpoch>,
     at: u64,
@@ -72,7 +75,8 @@ fn take_changes(
     changes: Changes,
 ) -> Result<Option<Step>, StreamFault>
     ensures { (known : List Known) → IsOpen current.old (open_epoch known) →
-        Takes at known (record { end = end; server = server; says = contents.Changes changes }) result current.new }
+        Takes at known (record { end = end; server = server; says = contents.Changes changes })
+        result current.new }
 {
     match current {
         Some(epoch) => epoch.change(changes)?,
@@ -81,7 +85,8 @@ fn take_changes(
     Ok(None)
 }
 
-/// Rows of the apply-status table. An epoch has at most one of its event's server, and at most one other.
+/// Adds apply-status rows to the open epoch. An epoch has at most one row whose server is that of
+/// the row's event, and at most one other row.
 fn take_statuses(
     current: &mut Option<OpenEpoch>,
     at: u64,
@@ -90,29 +95,31 @@ fn take_statuses(
     rows: &[StatusRow],
 ) -> Result<Option<Step>, StreamFault>
     ensures { (known : List Known) → IsOpen current.old (open_epoch known) →
-        Takes at known (record { end = end; server = server; says = contents.Statuses rows.now }) result current.new }
+        Takes at known (record { end = end; server = server; says = contents.Statuses rows.now })
+        result current.new }
 {
-    let Some(told) = told_so_far(current).with_rows(server, rows) else {
+    let Some(epoch_status) = status_so_far(current).with_rows(server, rows) else {
         return Err(StreamFault::BadEvent(at, Field::Status));
     };
     match current {
-        Some(epoch) => epoch.tell(told),
+        Some(epoch) => epoch.set_status(epoch_status),
         None => return Ok(None),
     }
     Ok(None)
 }
 
-/// The rows of the apply-status table that the epoch that is open has.
-fn told_so_far(current: &Option<OpenEpoch>) -> Told
-    ensures { (known : List Known) → IsOpen current.now (open_epoch known) → Tells result (statuses_so_far known) }
+/// Returns the apply-status rows of the open epoch so far.
+fn status_so_far(current: &Option<OpenEpoch>) -> EpochStatus
+    ensures { (known : List Known) → IsOpen current.now (open_epoch known) →
+        HoldsStatus result (statuses_so_far known) }
 {
     match current {
-        Some(epoch) => epoch.told(),
-        None => Told::nothing(),
+        Some(epoch) => epoch.epoch_status(),
+        None => EpochStatus::nothing(),
     }
 }
 
-/// The end of the epoch that is open.
+/// Ends the open epoch.
 fn end_epoch(
     alloc: Global,
     current: &mut Option<OpenEpoch>,
@@ -121,7 +128,8 @@ fn end_epoch(
     server: u32,
 ) -> Result<Option<Step>, StreamFault>
     ensures { (known : List Known) → IsOpen current.old (open_epoch known) →
-        Takes at known (record { end = end; server = server; says = contents.Ends }) result current.new }
+        Takes at known (record { end = end; server = server; says = contents.Ends }) result
+        current.new }
 {
     let Some(epoch) = current.take() else {
         return Err(StreamFault::BadEvent(at, Field::Status));
@@ -135,7 +143,8 @@ fn end_epoch(
     }
 }
 
-/// What the end of an epoch adds to it: its number, which the row of the server that ends it has, and its tables.
+/// Returns what the end of an epoch adds: the epoch's number, which is in the apply-status row of
+/// the server that ends it, and its tables.
 fn closing(
     alloc: Global,
     epoch: &OpenEpoch,
@@ -144,7 +153,7 @@ fn closing(
 ) -> Result<(Epoch, MappedTables), StreamFault>
     ensures { Closes epoch.now at server result }
 {
-    match epoch.told().own {
+    match epoch.epoch_status().own {
         Some(row) if row.server == server => Ok((row.epoch, epoch.tables(alloc)?)),
         _ => Err(StreamFault::BadEvent(at, Field::Status)),
     }

@@ -4,7 +4,7 @@ use rb_base::NoMemory;
 use std::alloc::Global;
 use std::marker::Model;
 
-/// Bytes that were fed and not gone past yet. Contracts see them as a list.
+/// Bytes that were fed and are not decoded yet. Contracts see them as a list.
 #[derive(Drop)]
 pub(crate) struct Unread {
     buffer: Vec<u8>,
@@ -39,7 +39,7 @@ impl Unread {
         &self.buffer[self.start..]
     }
 
-    /// Goes past so many bytes. They are let go of when more are fed.
+    /// Skips `count` bytes. Their memory is released when more bytes are fed.
     pub(crate) fn skip(&mut self, count: usize)
         requires { count ≤ length self.old }
         ensures { self.new ≡ drop count self.old }
@@ -47,8 +47,9 @@ impl Unread {
         self.start += count;
     }
 
-    /// Appends a piece. What was gone past is let go of first. So where all steps are taken between two pieces, the
-    /// bytes of an event that is not whole are copied once more, apart from the growth of the buffer.
+    /// Appends a piece, and first releases the bytes that were skipped. If all steps are taken
+    /// between two pieces, this copies only the bytes of an incomplete event again, apart from the
+    /// growth of the buffer.
     pub(crate) fn push(&mut self, alloc: Global, piece: &[u8]) -> Result<(), NoMemory>
         ensures ok { OnOk result (self.new ≡ self.old ++ piece.now) }
         ensures err { OnErr result (self.new ≡ self.old) }
@@ -60,7 +61,7 @@ impl Unread {
         Ok(())
     }
 
-    /// The same bytes, with room for so many more.
+    /// Returns the same bytes in a buffer with room for `more` bytes.
     fn without_passed(&self, alloc: Global, more: usize) -> Result<Unread, NoMemory>
         ensures { IfOk result (λ unread. unread ≡ self.now) }
     {

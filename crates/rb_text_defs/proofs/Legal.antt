@@ -1,4 +1,4 @@
--- A script that is read keeps to the limits, and its operations suit its tables.
+-- A script that is read is within the limits, and its operations fit its tables.
 use Rattle.std.proofs.Common.{◌≡◌, ℕ, zero, suc, ◌+◌, ◌-◌, ◌^◌, ◌<◌, ◌≤◌, Bool, true, false, ◌||◌, List, [], ◌∷◌, ◌++◌, length, map, take, Option, Some, None, refl, ap, sym, ◌∙◌, subst, append_assoc, append-nil, length-append, arith}
 use Rattle.std.specs.Prelude.{nat_le, nat_lt, ◌&&◌, ◌*◌, not, filter_map, is_some, sum_by, if◌then◌else◌, IfSome, Result, Ok, Err}
 use Rattle.std.specs.Option.{option_map, option_map_or}
@@ -22,7 +22,7 @@ use Rattle.rb_text_defs.specs.declared.script.BadLine.{BadLine}
 use Rattle.rb_text_defs.specs.declared.script.LinedEvent.{LinedEvent}
 use Rattle.rb_text_defs.specs.declared.script.Script.{Script}
 use Rattle.rb_text_defs.specs.Words.{lines_of}
-use Rattle.rb_text_defs.specs.Form.{Operation, Form, SiteLine, TableLine, TxLine, EventLine, Reading, Wrong, Skipped, Says, reading_of}
+use Rattle.rb_text_defs.specs.Form.{Operation, Form, SiteLine, TableLine, TxLine, EventLine, LineMeaning, Wrong, Skipped, Says, reading_of}
 use Rattle.rb_text_defs.specs.Script.{most_bytes, most_lines, most_tables, most_columns, most_groups, most_replicas, most_changes, most_row_bytes, most_tx_changes, most_work, least_limit, most_limit, row_bytes, work_of, default_site, first_of, nodes_in, shape_in, table_in, tables_in, is_event, changes_in_form, client_op, row_for, table_number, has_values, is_named, suits_table, suits_tables, events_of, form_in, is_misplaced, limit_passed, refusal_of_line, refused_lines, script_in, script_of, script_of_readings}
 use Rattle.rb_text_defs.specs.Legal.{IsLegal, IsLegalTable, IsLegalValue, IsLegalOperation, IsLegalEvent, HasLegalRow, changes_in_event, columns_at}
 use Rattle.rb_text_defs.proofs.Said.{IsSaidBy, IsSaidOperation, reading_said}
@@ -69,13 +69,13 @@ all_append : {X : Type 0} (P : X → Type 0) (xs ys : List X) → AllByRecursion
 all_append P [] ys all more = more
 all_append P (x ∷ xs) ys all more = (all.0, all_append P xs ys all.1 more)
 
--- the shape of a site within the limits
+-- the setup of a site within the limits
 record IsLegalShape (shape : SiteSetup) : Type 0 where
   groups : (1 ≤ shape.groups) × (shape.groups ≤ most_groups)
   replicas : (1 ≤ shape.replicas) × (shape.replicas ≤ most_replicas)
   limit : (least_limit ≤ shape.limit) × (shape.limit ≤ most_limit)
 
--- forms, and the events of so many lines, that keep to the limits
+-- forms, and the events of `count` lines, that are within the limits
 record Keeps (forms : List Form) (told : List LinedEvent) (count : ℕ) : Type 0 where
   shape : IfSome (first_of (filter_map shape_in forms)) IsLegalShape
   few_tables : length (tables_in forms) ≤ most_tables
@@ -86,7 +86,7 @@ record Keeps (forms : List Form) (told : List LinedEvent) (count : ℕ) : Type 0
   few : length told ≤ count
   lines : count ≤ most_lines
 
-abbrev SoFar : List Reading → Type 0
+abbrev SoFar : List LineMeaning → Type 0
 SoFar readings = Keeps (forms_of readings) (events_of (tables_in (forms_of readings)) readings) (length readings)
 
 same_tables : (forms : List Form) (form : Form) → table_in form ≡ None → tables_in (forms ++ form ∷ []) ≡ tables_in forms
@@ -95,7 +95,7 @@ same_tables forms form none = filter_map-append table_in forms (form ∷ []) ∙
 same_shapes : (forms : List Form) (form : Form) → shape_in form ≡ None → filter_map shape_in (forms ++ form ∷ []) ≡ filter_map shape_in forms
 same_shapes forms form none = filter_map-append shape_in forms (form ∷ []) ∙ ap (λ shape. filter_map shape_in forms ++ cons_option shape []) none ∙ append-nil (filter_map shape_in forms)
 
--- one more form that declares no table
+-- one more form, which declares no table
 keeps_form : (forms : List Form) (events more : List LinedEvent) (count : ℕ) (form : Form) → Keeps forms events count → table_in form ≡ None
     → IfSome (first_of (filter_map shape_in (forms ++ form ∷ []))) IsLegalShape → AllByRecursion (λ lined. IsLegalEvent (tables_in forms) (nodes_in (forms ++ form ∷ [])) lined.event) (events ++ more) → length more ≤ 1 → count + 1 ≤ most_lines
     → sum_by (λ lined. changes_in_event lined.event) more ≡ changes_in_form form → sum_by changes_in_form forms + changes_in_form form ≤ most_changes
@@ -113,7 +113,7 @@ keeps_form forms events more count form keeps none shape legal one lines counted
       lines = lines;
     }
 
--- the events so far and more, where a form leaves the shape
+-- the events so far and the new ones, if the new form gives no setup
 events_and : (forms : List Form) (form : Form) (events more : List LinedEvent) → shape_in form ≡ None → AllByRecursion (λ lined. IsLegalEvent (tables_in forms) (nodes_in forms) lined.event) events
     → AllByRecursion (λ lined. IsLegalEvent (tables_in forms) (nodes_in forms) lined.event) more → AllByRecursion (λ lined. IsLegalEvent (tables_in forms) (nodes_in (forms ++ form ∷ [])) lined.event) (events ++ more)
 events_and forms form events more none before legal =
@@ -164,7 +164,7 @@ within_limits forms number form fine = unmapped _ (limit_passed forms number for
     unmapped f None none = refl
     unmapped f (Some x) none = absurd (cc)
 
-to_so_far : (readings : List Reading) (reading : Reading) (forms : List Form) (events : List LinedEvent) → forms_of (readings ++ reading ∷ []) ≡ forms
+to_so_far : (readings : List LineMeaning) (reading : LineMeaning) (forms : List Form) (events : List LinedEvent) → forms_of (readings ++ reading ∷ []) ≡ forms
     → events_of (tables_in forms) (readings ++ reading ∷ []) ≡ events → Keeps forms events (length readings + 1) → SoFar (readings ++ reading ∷ [])
 to_so_far readings reading forms events same_forms same_events keeps =
     let all = readings ++ reading ∷ [] in
@@ -173,13 +173,13 @@ to_so_far readings reading forms events same_forms same_events keeps =
     (subst (λ (events : List LinedEvent). Keeps forms events (length all)) (sym same_events)
     (subst (λ (n : ℕ). Keeps forms events n) (sym count) keeps))
 
-events_behind : (readings : List Reading) (reading : Reading) (form : Form) (more : List LinedEvent) → table_in form ≡ None
+events_after : (readings : List LineMeaning) (reading : LineMeaning) (form : Form) (more : List LinedEvent) → table_in form ≡ None
     → events_of (tables_in (forms_of readings)) (readings ++ reading ∷ []) ≡ events_of (tables_in (forms_of readings)) readings ++ more
     → events_of (tables_in (forms_of readings ++ form ∷ [])) (readings ++ reading ∷ []) ≡ events_of (tables_in (forms_of readings)) readings ++ more
-events_behind readings reading form more none is = ap (λ (tables : List Schema). events_of tables (readings ++ reading ∷ [])) (same_tables (forms_of readings) form none) ∙ is
+events_after readings reading form more none is = ap (λ (tables : List Schema). events_of tables (readings ++ reading ∷ [])) (same_tables (forms_of readings) form none) ∙ is
 
 -- one more line that is not refused
-so_far_more : (readings : List Reading) (reading : Reading) → SoFar readings → refusal_of_line (forms_of readings) (length readings + 1) reading ≡ None → IsSaidBy reading → SoFar (readings ++ reading ∷ [])
+so_far_more : (readings : List LineMeaning) (reading : LineMeaning) → SoFar readings → refusal_of_line (forms_of readings) (length readings + 1) reading ≡ None → IsSaidBy reading → SoFar (readings ++ reading ∷ [])
 so_far_more readings Wrong so fine said = absurd (cc)
 so_far_more readings Skipped so fine said =
     let lines : length readings + 1 ≤ most_lines = within (nat_lt most_lines (length readings + 1)) _ refl fine in
@@ -207,7 +207,7 @@ so_far_more readings (Says (SiteLine site groups replicas limit)) so fine said =
       limit = (leb-true least_limit limit limit_in.0, leb-true limit most_limit limit_in.1);
     } in
     to_so_far readings (Says form) (forms ++ form ∷ []) (events_of (tables_in forms) readings ++ []) (forms_more readings (Says form))
-    (events_behind readings (Says form) form [] refl (events_more (tables_in forms) readings (Says form)))
+    (events_after readings (Says form) form [] refl (events_more (tables_in forms) readings (Says form)))
     (keeps_form forms (events_of (tables_in forms) readings) [] (length readings) form so refl
     (subst (λ (shapes : List SiteSetup). IfSome (first_of shapes) IsLegalShape) (sym (filter_map-append shape_in forms (form ∷ []) ∙ ap (λ (shapes : List SiteSetup). shapes ++ filter_map shape_in (form ∷ [])) none)) shape)
     (no_event_legal _ (events_of (tables_in forms) readings) (no_events (tables_in forms) readings 0 quiet)) (omega arith) (ltb-false most_lines (length readings + 1) within.0) refl (omega (arith, so.changes)))
@@ -231,7 +231,7 @@ so_far_more readings (Says (TxLine site operations)) so fine said =
     limits.Lines limits.TxChanges limits.Changes limits.Work (within_limits forms (length readings + 1) form fine) in
     let lined : LinedEvent = record { line = length readings + 1; event = Tx site (map (client_op (tables_in forms)) operations) } in
     to_so_far readings (Says form) (forms ++ form ∷ []) (events_of (tables_in forms) readings ++ lined ∷ []) (forms_more readings (Says form))
-    (events_behind readings (Says form) form (lined ∷ []) refl (events_more (tables_in forms) readings (Says form)))
+    (events_after readings (Says form) form (lined ∷ []) refl (events_more (tables_in forms) readings (Says form)))
     (keeps_form forms (events_of (tables_in forms) readings) (lined ∷ []) (length readings) form so refl
     (subst (λ (shapes : List SiteSetup). IfSome (first_of shapes) IsLegalShape) (sym (same_shapes forms form refl)) so.shape)
     (events_and forms form (events_of (tables_in forms) readings) (lined ∷ []) refl so.events ((said.0, operations_legal (tables_in forms) operations (not-false (list_all (suits_tables (tables_in forms)) operations) placed) said.1), tt)) (omega arith) (ltb-false most_lines (length readings + 1) within.0)
@@ -242,28 +242,28 @@ so_far_more readings (Says (EventLine event)) so fine said =
     let within = first_not_passed (nat_lt most_lines (length readings + 1)) (nat_lt most_work (work_of (forms ++ form ∷ []))) limits.Lines limits.Work (within_limits forms (length readings + 1) form fine) in
     let lined : LinedEvent = record { line = length readings + 1; event = event } in
     to_so_far readings (Says form) (forms ++ form ∷ []) (events_of (tables_in forms) readings ++ lined ∷ []) (forms_more readings (Says form))
-    (events_behind readings (Says form) form (lined ∷ []) refl (events_more (tables_in forms) readings (Says form)))
+    (events_after readings (Says form) form (lined ∷ []) refl (events_more (tables_in forms) readings (Says form)))
     (keeps_form forms (events_of (tables_in forms) readings) (lined ∷ []) (length readings) form so refl
     (subst (λ (shapes : List SiteSetup). IfSome (first_of shapes) IsLegalShape) (sym (same_shapes forms form refl)) so.shape)
     (events_and forms form (events_of (tables_in forms) readings) (lined ∷ []) refl so.events (said.0 (tables_in forms) (nodes_in forms) (not_misplaced forms (length readings + 1) form fine), tt)) (omega arith) (ltb-false most_lines (length readings + 1) within) (omega (arith, said.1)) (omega (arith, so.changes)))
 
-abbrev refusal_in : List Reading → ℕ × Reading → Option BadLine
+abbrev refusal_in : List LineMeaning → ℕ × LineMeaning → Option BadLine
 refusal_in all numbered = refusal_of_line (filter_map form_in (take numbered.0 all)) (numbered.0 + 1) numbered.1
 
 none_first : {X : Type 0} (value : Option X) (values : List X) → cons_option value values ≡ [] → (value ≡ None) × (values ≡ [])
 none_first None values none = (refl, none)
 none_first (Some x) values none = absurd (cc)
 
-so_far_all : (done left : List Reading) → SoFar done → filter_map (refusal_in (done ++ left)) (enumerate_from (length done) left) ≡ [] → AllByRecursion IsSaidBy left → SoFar (done ++ left)
+so_far_all : (done left : List LineMeaning) → SoFar done → filter_map (refusal_in (done ++ left)) (enumerate_from (length done) left) ≡ [] → AllByRecursion IsSaidBy left → SoFar (done ++ left)
 so_far_all done [] so fine said = subst SoFar (sym (append-nil done)) so
 so_far_all done (reading ∷ left) so fine said =
     let parts = none_first (refusal_in (done ++ reading ∷ left) (length done, reading)) (filter_map (refusal_in (done ++ reading ∷ left)) (enumerate_from (length done + 1) left)) fine in
     let here : refusal_of_line (forms_of done) (length done + 1) reading ≡ None =
-    ap (λ (earlier : List Reading). refusal_of_line (forms_of earlier) (length done + 1) reading) (sym (take-append_seam done (reading ∷ left))) ∙ parts.0 in
+    ap (λ (earlier : List LineMeaning). refusal_of_line (forms_of earlier) (length done + 1) reading) (sym (take-append_seam done (reading ∷ left))) ∙ parts.0 in
     let same : (done ++ reading ∷ []) ++ left ≡ done ++ reading ∷ left = append_assoc done (reading ∷ []) left in
     let count : length (done ++ reading ∷ []) ≡ length done + 1 = omega (arith, length-append done (reading ∷ [])) in
     let rest : filter_map (refusal_in ((done ++ reading ∷ []) ++ left)) (enumerate_from (length (done ++ reading ∷ [])) left) ≡ [] =
-    ap (λ (all : List Reading). filter_map (refusal_in all) (enumerate_from (length (done ++ reading ∷ [])) left)) same
+    ap (λ (all : List LineMeaning). filter_map (refusal_in all) (enumerate_from (length (done ++ reading ∷ [])) left)) same
     ∙ ap (λ n. filter_map (refusal_in (done ++ reading ∷ left)) (enumerate_from n left)) count ∙ parts.1 in
     subst SoFar same (so_far_all (done ++ reading ∷ []) left (so_far_more done reading so here said.0) rest said.1)
 
@@ -275,12 +275,12 @@ shape_legal : (shape : Option SiteSetup) → IfSome shape IsLegalShape → IsLeg
 shape_legal None legal = record { groups = (omega arith, omega arith); replicas = (omega arith, omega arith); limit = (omega arith, omega arith) }
 shape_legal (Some shape) legal = legal
 
--- as many nodes as its setup says
+-- the number of nodes that the setup of a site gives
 nodes_of_shape : (shape : Option SiteSetup) → option_map_or (λ (shape : SiteSetup). shape.groups * shape.replicas) shape 1 ≡ (option_map_or (λ shape. shape) shape default_site).groups * (option_map_or (λ shape. shape) shape default_site).replicas
 nodes_of_shape None = refl
 nodes_of_shape (Some shape) = refl
 
-legal_so_far : (readings : List Reading) → SoFar readings → IsLegal (script_in readings)
+legal_so_far : (readings : List LineMeaning) → SoFar readings → IsLegal (script_in readings)
 legal_so_far readings so =
     let shape = shape_legal (first_of (filter_map shape_in (forms_of readings))) so.shape in
     record {

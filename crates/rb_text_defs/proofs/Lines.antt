@@ -1,19 +1,19 @@
--- What lines tell together, line by line.
+-- The script that lines give together, one line at a time.
 use Rattle.std.proofs.Common.{◌≡◌, ℕ, ◌+◌, Bool, true, false, ◌||◌, List, [], ◌∷◌, ◌++◌, length, Option, Some, None, option_to_list, refl, ap, ◌∙◌, arith}
 use Rattle.std.specs.Prelude.{filter_map, is_some, if◌then◌else◌}
 use Rattle.std.specs.List.{cons_option, list_any, enumerate_from}
 use Rattle.std.proofs.lemmas.Bool.{true≢false}
 use Rattle.std.proofs.lemmas.List.Elements.{filter_map-append}
 use Rattle.rb_base.specs.declared.schema.Schema.{Schema}
-use Rattle.rb_text_defs.specs.Form.{Form, SiteLine, TableLine, TxLine, EventLine, Reading, Wrong, Skipped, Says}
+use Rattle.rb_text_defs.specs.Form.{Form, SiteLine, TableLine, TxLine, EventLine, LineMeaning, Wrong, Skipped, Says}
 use Rattle.rb_text_defs.specs.Script.{is_event, events_of, lined_event, form_in, refusal_of_line, is_misplaced}
 
--- the forms that lines say
-abbrev pub forms_of : List Reading → List Form
+-- the forms of these lines
+abbrev pub forms_of : List LineMeaning → List Form
 forms_of readings = filter_map form_in readings
 
--- the forms of one more line
-pub forms_more : (readings : List Reading) (reading : Reading) → forms_of (readings ++ reading ∷ []) ≡ forms_of readings ++ forms_of (reading ∷ [])
+-- the forms with one more line
+pub forms_more : (readings : List LineMeaning) (reading : LineMeaning) → forms_of (readings ++ reading ∷ []) ≡ forms_of readings ++ forms_of (reading ∷ [])
 forms_more readings reading = filter_map-append form_in readings (reading ∷ [])
 
 enumerate_more : {X : Type 0} (n : ℕ) (xs : List X) (x : X) → enumerate_from n (xs ++ x ∷ []) ≡ enumerate_from n xs ++ (n + length xs, x) ∷ []
@@ -22,11 +22,11 @@ enumerate_more n (y ∷ xs) x =
     ap (λ rest. (n, y) ∷ rest) (enumerate_more (n + 1) xs x
     ∙ ap (λ m. enumerate_from (n + 1) xs ++ (m, x) ∷ []) (omega arith))
 
--- the events of one more line
-pub events_more : (tables : List Schema) (readings : List Reading) (reading : Reading)
+-- the events with one more line
+pub events_more : (tables : List Schema) (readings : List LineMeaning) (reading : LineMeaning)
     → events_of tables (readings ++ reading ∷ []) ≡ events_of tables readings ++ option_to_list (lined_event tables (length readings + 1) reading)
 events_more tables readings reading =
-    let event = λ (numbered : ℕ × Reading). lined_event tables (numbered.0 + 1) numbered.1 in
+    let event = λ (numbered : ℕ × LineMeaning). lined_event tables (numbered.0 + 1) numbered.1 in
     ap (filter_map event) (enumerate_more 0 readings reading)
     ∙ filter_map-append event (enumerate_from 0 readings) ((0 + length readings, reading) ∷ [])
     ∙ ap (λ more. events_of tables readings ++ more) (one (event (0 + length readings, reading)))
@@ -36,7 +36,7 @@ events_more tables readings reading =
     one None = refl
     one (Some value) = refl
 
--- what gives nothing
+-- if no item gives a value, the values are empty
 pub none_given : {X Y : Type 0} (h : X → Option Y) (xs : List X) → list_any (λ x. is_some (h x)) xs ≡ false → filter_map h xs ≡ []
 none_given h [] none = refl
 none_given h (x ∷ xs) none = none_of (h x) _ _ none (none_given h xs)
@@ -53,9 +53,9 @@ pub or_right : (a b : Bool) → (a || b) ≡ false → b ≡ false
 or_right true b none = absurd (true≢false none)
 or_right false b none = none
 
--- no events in lines of the setup
-pub no_events : (tables : List Schema) (readings : List Reading) (n : ℕ) → list_any is_event (forms_of readings) ≡ false
-    → filter_map (λ (numbered : ℕ × Reading). lined_event tables (numbered.0 + 1) numbered.1) (enumerate_from n readings) ≡ []
+-- lines of the setup give no events
+pub no_events : (tables : List Schema) (readings : List LineMeaning) (n : ℕ) → list_any is_event (forms_of readings) ≡ false
+    → filter_map (λ (numbered : ℕ × LineMeaning). lined_event tables (numbered.0 + 1) numbered.1) (enumerate_from n readings) ≡ []
 no_events tables [] n none = refl
 no_events tables (Wrong ∷ readings) n none = no_events tables readings (n + 1) none
 no_events tables (Skipped ∷ readings) n none = no_events tables readings (n + 1) none
@@ -64,7 +64,7 @@ no_events tables (Says (TableLine name columns) ∷ readings) n none = no_events
 no_events tables (Says (TxLine site operations) ∷ readings) n none = absurd (true≢false none)
 no_events tables (Says (EventLine event) ∷ readings) n none = absurd (true≢false none)
 
--- a line that is not refused fits those before it
+-- a line that is not refused fits the lines before it
 pub not_misplaced : (forms : List Form) (number : ℕ) (form : Form) → refusal_of_line forms number (Says form) ≡ None → is_misplaced forms form ≡ false
 not_misplaced forms number form fine = go (is_misplaced forms form) _ _ fine
   where

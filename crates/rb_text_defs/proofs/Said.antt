@@ -1,4 +1,4 @@
--- What a line says keeps to, by its words alone.
+-- What holds of a line from its words alone.
 use Rattle.std.proofs.Common.{◌≡◌, ℕ, ◌<◌, ◌≤◌, ◌^◌, Bool, true, false, List, [], ◌∷◌, length, map, Option, Some, None, refl}
 use Rattle.std.specs.Prelude.{nat_le, ◌&&◌, if◌then◌else◌, codes, ⊤, IfSome}
 use Rattle.std.specs.List.{AllByRecursion, list_all, slice_split}
@@ -12,16 +12,17 @@ use Rattle.rb_base.specs.declared.row.Value.TheVariants as values
 use Rattle.rb_base.specs.declared.script.Event.{Event}
 use Rattle.rb_base.specs.declared.script.Event.TheVariants as events
 use Rattle.rb_text_defs.specs.Words.{Word, Plain, Quoted, ◌>>=◌, all_of, begins_with, decimal_value, is_letter, is_name, is_name_byte, is_number, name_of, number_of, words_of, is_line_byte, is_skipped}
-use Rattle.rb_text_defs.specs.Form.{Operation, Form, SiteLine, TableLine, TxLine, EventLine, Reading, Wrong, Skipped, Says, deliver_line, form_from, form_of, is_word, maximum_of, may_have, op_of, operation_of, reading_of, says, node_event, site_event, site_line, site_of, small_number_of, table_line, text_type, tx_line, type_of, value_of}
+use Rattle.rb_text_defs.specs.Form.{Operation, Form, SiteLine, TableLine, TxLine, EventLine, LineMeaning, Wrong, Skipped, Says, deliver_line, form_from, form_of, is_word, maximum_of, may_have, op_of, operation_of, reading_of, says, node_event, site_event, site_line, site_of, small_number_of, table_line, text_type, tx_line, type_of, value_of}
 use Rattle.rb_text_defs.specs.Script.{node_in}
 use Rattle.rb_text_defs.specs.Legal.{IsLegalColumn, IsLegalEvent, IsLegalValue, changes_in_event}
 
--- what an operation keeps to: its numbers have 64 bits
+-- an operation as a line can write it: its numbers have 64 bits
 pub record IsSaidOperation (operation : Operation) : Type 0 where
   pub key : operation.key < 2 ^ 64
   pub values : AllByRecursion IsLegalValue operation.values
 
--- what a form keeps to: a name's length, columns of a type, site A, numbers of 64 bits, and no changes outside transactions
+-- a form as a line can write it: the length of names, types of columns, site A, numbers of 64 bits,
+-- and no changes outside transactions
 abbrev pub IsSaid : Form → Type 0
 IsSaid (SiteLine site groups replicas limit) = ⊤
 IsSaid (TableLine name columns) = (length name ≤ 32) × AllByRecursion IsLegalColumn columns
@@ -67,7 +68,7 @@ type_said word = if_chosen IsLegalColumn (is_word (codes "num") word) (Some Num)
     text_said None = tt
     text_said (Some most) = some most (nat_le 1 most) (leb-true 1 most)
 
--- what each word says, where all say something
+-- if every word of a line has a value, each value has this property
 each_said : {X Y : Type 0} (P : Y → Type 0) (f : X → Option Y) → ((x : X) → IfSome (f x) P) → (xs : List X) → IfSome (all_of (map f xs)) (AllByRecursion P)
 each_said P f said [] = tt
 each_said P f said (x ∷ xs) = pick P (f x) (map f xs) (said x) (each_said P f said xs)
@@ -187,8 +188,8 @@ unfolding form_of
 form_said [] = tt
 form_said (first ∷ words) = form_from_said first words
 
--- a line's form keeps to it
-abbrev pub IsSaidBy : Reading → Type 0
+-- the form of a line, if it has one, is one that a line can write
+abbrev pub IsSaidBy : LineMeaning → Type 0
 IsSaidBy Wrong = ⊤
 IsSaidBy Skipped = ⊤
 IsSaidBy (Says form) = IsSaid form

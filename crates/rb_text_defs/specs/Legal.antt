@@ -1,4 +1,4 @@
--- What a legal script keeps to: the limits, and operations that suit the tables.
+-- Legal scripts: they keep to the limits, and their operations fit the tables.
 use Rattle.std.specs.Prelude.{◌≡◌, ⊤, ℕ, ◌-◌, ◌*◌, ◌^◌, ◌<◌, ◌≤◌, true, List, [], ◌∷◌, length, sum_by, Option, Some, None}
 use Rattle.std.specs.List.{AllByRecursion, slice_get}
 use Rattle.std.specs.Option.{option_map_or}
@@ -17,49 +17,49 @@ use Rattle.rb_base.specs.declared.script.Event.TheVariants as events
 use Rattle.rb_text_defs.specs.declared.script.Script.{Script}
 use Rattle.rb_text_defs.specs.Script.{most_lines, most_tables, most_columns, most_row_bytes, most_groups, most_replicas, least_limit, most_limit, most_changes, row_bytes, suits_columns}
 
--- a column that a line can declare: a number, or a text of at least 1 byte at most
+-- a column that a line can declare: a number, or a text whose maximum length is at least 1
 abbrev pub IsLegalColumn : Column → Type 0
 IsLegalColumn columns.Num = ⊤
 IsLegalColumn columns.Long = ⊥
 IsLegalColumn (columns.Text most) = 1 ≤ most
 
--- a table whose name, columns and rows keep to the limits
+-- a table whose name, columns and rows are within the limits
 pub record IsLegalTable (table : Schema) : Type 0 where
   pub name : length table.name ≤ 32
   pub few : length table.columns ≤ most_columns
   pub columns : AllByRecursion IsLegalColumn table.columns
   pub bytes : row_bytes table.columns ≤ most_row_bytes
 
--- the columns of the table of this number, without its key
+-- the columns, without the key, of the table with this number
 abbrev pub columns_at : List Schema → (number : ℕ) → List Column
 columns_at tables number = option_map_or (λ table. table.columns) (slice_get tables (number - 1)) []
 
--- a value that a line can say: a number of 64 bits, or a text
+-- a value that a line can write: a number of 64 bits, or any text
 abbrev pub IsLegalValue : Value → Type 0
 IsLegalValue (values.Num number) = number < 2 ^ 64
 IsLegalValue (values.Text text) = ⊤
 
--- a row has this key first, and then values that suit these columns, and a line can say all of them
+-- a row that a line can write: this key, and then values that fit these columns
 abbrev pub IsLegalRow : List Column → (key : ℕ) → Option Row → Type 0
 IsLegalRow columns key None = ⊥
 IsLegalRow columns key (Some row) =
     (others : List Value) × (row.values ≡ values.Num key ∷ others) × (suits_columns columns others ≡ true) × AllByRecursion IsLegalValue row.values
 
--- the row that an operation of this kind has
+-- an operation of this kind has the row that it needs: a legal row, or none if it is a `del`
 abbrev pub HasLegalRow : Op → List Column → (key : ℕ) → Option Row → Type 0
 HasLegalRow Ins columns key row = IsLegalRow columns key row
 HasLegalRow Upd columns key row = IsLegalRow columns key row
 HasLegalRow Put columns key row = IsLegalRow columns key row
 HasLegalRow Del columns key row = row ≡ None
 
--- an operation on a declared table, with a key of 64 bits and the row that it needs
+-- an operation on a declared table, with a key of 64 bits and the row that its kind needs
 pub record IsLegalOperation (tables : List Schema) (operation : ClientOp) : Type 0 where
   pub some : 1 ≤ operation.table
   pub declared : operation.table ≤ length tables
   pub key : operation.key < 2 ^ 64
   pub row : HasLegalRow operation.op (columns_at tables operation.table) operation.key operation.row
 
--- an event that runs, at a site of so many nodes
+-- an event that can run, at a site with this number of nodes
 abbrev pub IsLegalEvent : List Schema → (nodes : ℕ) → Event → Type 0
 IsLegalEvent tables nodes (events.Tx site operations) = (site ≡ A) × AllByRecursion (IsLegalOperation tables) operations
 IsLegalEvent tables nodes (events.Close site gci) = site ≡ A
@@ -73,12 +73,12 @@ IsLegalEvent tables nodes (events.Resend site) = site ≡ A
 IsLegalEvent tables nodes (events.Injector site) = site ≡ A
 IsLegalEvent tables nodes event = ⊥
 
--- how many changes an event may make
+-- the number of changes that an event may make
 abbrev pub changes_in_event : Event → ℕ
 changes_in_event (events.Tx site operations) = length operations
 changes_in_event event = 0
 
--- a script that keeps to the limits
+-- a script within all limits
 pub record IsLegal (script : Script) : Type 0 where
   pub groups : (1 ≤ script.setup.a.groups) × (script.setup.a.groups ≤ most_groups)
   pub replicas : (1 ≤ script.setup.a.replicas) × (script.setup.a.replicas ≤ most_replicas)

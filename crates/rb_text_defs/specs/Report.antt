@@ -1,4 +1,5 @@
--- The report: a title, a line for each event with what it did, the log, the tables, and an end; each line ends with a line feed.
+-- The report: a title, a line for each event with its outcome, the log, the tables, and an end
+-- line. Each line ends with a line feed.
 use Rattle.std.specs.Prelude.{ℕ, ◌+◌, ◌/◌, ◌%◌, ◌==◌, nat_le, nat_lt, ◌&&◌, not, if◌then◌else◌, List, [], ◌∷◌, ◌++◌, length, map, codes, Option, Some, None}
 use Rattle.std.specs.List.{concat, flat_map, last_or}
 use Rattle.std.specs.Option.{option_map_or}
@@ -23,32 +24,33 @@ abbrev pub letter_of : SiteId → List ℕ
 letter_of A = codes "A"
 letter_of B = codes "B"
 
--- a number behind its label
+-- a number after its label
 abbrev pub labelled : (label : List ℕ) → (number : ℕ) → List ℕ
 labelled label number = label ++ decimal number
 
--- the first thing that an event buffer misses: a bucket, and a place of it or its Done
+-- the first message that an event buffer lacks: a place of a bucket, or the bucket's Done
 abbrev pub missing_text : (bucket : ℕ) → (place : Option ℕ) → List ℕ
 missing_text bucket None = concat (labelled (codes " missing=") bucket ∷ codes ":done" ∷ [])
 missing_text bucket (Some place) = concat (labelled (codes " missing=") bucket ∷ labelled (codes ":") place ∷ [])
 
--- what a delivery of all messages did
+-- the outcome of a delivery of all messages
 abbrev pub delivered_text : (kept known old : ℕ) → List ℕ
 delivered_text kept known old =
     concat (labelled (codes "delivered kept=") kept ∷ labelled (codes " known=") known ∷ labelled (codes " old=") old ∷ [])
 
--- what the injector wrote
+-- the outcome of an `inject` event: how many epochs it logged, the last logged epoch, and the first
+-- message that is missing
 abbrev pub wrote_text : (count : ℕ) → (written : Epoch) → (bucket : ℕ) → (place : Option ℕ) → List ℕ
 wrote_text count written bucket place =
     concat (labelled (codes "wrote ") count ∷ labelled (codes " written=") written.0 ∷ missing_text bucket place ∷ [])
 
--- an event of a file, as `dump` lists it
+-- an event of a binlog file, as the event `dump` lists it
 abbrev pub listed_text : Listed → List ℕ
 listed_text event =
     concat (labelled (10 ∷ codes "event file=") event.file ∷ labelled (codes " pos=") event.position ∷ labelled (codes " type=") event.kind
     ∷ labelled (codes " size=") event.size ∷ labelled (codes " end=") event.end ∷ [])
 
--- what an event did
+-- the outcome of an event
 unfoldable pub outcome_text : Outcome → List ℕ
 outcome_text (outcomes.Committed transid epoch sent) =
     concat (labelled (codes "ok transid=") transid ∷ labelled (codes " epoch=") epoch.0 ∷ labelled (codes " sent=") sent ∷ [])
@@ -86,11 +88,12 @@ outcome_text (outcomes.DrainLost site group epoch) =
     concat (codes "lost " ∷ letter_of site ∷ labelled (codes " ") group ∷ labelled (codes " ") epoch.0 ∷ [])
 outcome_text (outcomes.SiteLost group epoch) = concat (labelled (codes "site lost ") group ∷ labelled (codes " ") epoch.0 ∷ [])
 
--- the line of an event, behind the number of its line in the script
+-- the line of an event: the number of its line in the script, and its outcome
 abbrev pub outcome_line : (number : ℕ) → Outcome → List ℕ
 outcome_line number outcome = concat (decimal number ∷ codes " " ∷ outcome_text outcome ∷ [])
 
--- how many files a site's log has, how many epochs are written, and the last of them, or 0
+-- the line of a site's log: the number of its files, the number of its epochs, and the last logged
+-- epoch, or 0
 abbrev pub log_line : SiteId → (files epochs written : ℕ) → List ℕ
 log_line site files epochs written =
     concat (codes "log " ∷ letter_of site ∷ labelled (codes " files=") files ∷ labelled (codes " epochs=") epochs
@@ -100,7 +103,8 @@ log_line site files epochs written =
 abbrev pub hex_digit : ℕ → ℕ
 hex_digit digit = if nat_lt digit 10 then digit + 48 else digit + 87
 
--- a byte of a text: as it is where it prints and is no quote and no backslash, else by its hexadecimal number
+-- a byte of a text: the byte itself if it is printable and neither a quote nor a backslash,
+-- otherwise `\x` and its two hexadecimal digits
 abbrev pub text_byte : ℕ → List ℕ
 text_byte byte =
     if nat_le 32 byte && nat_le byte 126 && not (byte == 34) && not (byte == 92) then byte ∷ []
@@ -115,7 +119,7 @@ value_text (Text text) = 34 ∷ (flat_map text_byte text ++ 34 ∷ [])
 unfoldable pub row_line : Row → List ℕ
 row_line row = codes "row" ++ flat_map (λ value. 32 ∷ value_text value) row.values
 
--- a table with its name and its rows
+-- the name and the rows of a table
 pub record NamedRows : Type 0 where
   pub name : List ℕ
   pub rows : List Row
@@ -126,16 +130,17 @@ table_lines site table =
     concat (codes "table " ∷ letter_of site ∷ codes " " ∷ table.name ∷ labelled (codes " rows=") (length table.rows) ∷ [])
     ∷ map row_line table.rows
 
--- a log: how many files it has, and the row of each epoch in its index
+-- a log: the number of its files, and the index row of each epoch
 pub record LogRows : Type 0 where
   pub files : ℕ
   pub rows : List IndexRow
 
--- the epoch of the last of these rows, or 0
+-- the epoch of the last row, or 0 if there is no row
 abbrev pub last_in : List IndexRow → ℕ
 last_in rows = option_map_or (λ row. row.epoch.0) (last_or None rows) 0
 
--- an epoch in the index: its GCI, where it stands, and how many changes of each kind it has
+-- an epoch in the index: its number, its GCI, its place in the binlog, and how many changes of each
+-- kind it has
 unfoldable pub index_line : IndexRow → List ℕ
 index_line row =
     concat (labelled (codes "epoch ") row.epoch.0 ∷ labelled (codes " gci=") row.gci ∷ labelled (codes " file=") row.file
@@ -146,13 +151,14 @@ index_line row =
 abbrev pub log_lines : SiteId → LogRows → List (List ℕ)
 log_lines site log = log_line site log.files (length log.rows) (last_in log.rows) ∷ map index_line log.rows
 
--- the lines of a report of a run at site A: these events, this log, these tables
+-- the lines of the report of a run at site A, from the outcomes of its events, its log and its
+-- tables
 abbrev pub report_lines : List (ℕ × Outcome) → LogRows → List NamedRows → List (List ℕ)
 report_lines outcomes log tables =
     codes "ndb replication report"
     ∷ (map (λ lined. outcome_line lined.0 lined.1) outcomes
     ++ (log_lines A log ++ (flat_map (table_lines A) tables ++ codes "end" ∷ [])))
 
--- the report of such a run
+-- the report of a run at site A
 unfoldable pub report_text : List (ℕ × Outcome) → LogRows → List NamedRows → List ℕ
 report_text outcomes log tables = text_of_lines (report_lines outcomes log tables)

@@ -1,8 +1,8 @@
-//! The languages of input and output: the script that the program runs, the report that it prints, and the text of a
-//! log that it reads.
+//! The languages of input and output: the script that the program runs, the report that it prints,
+//! and the text of a log that it reads.
 //!
-//! Definitions in `specs/`, over whole lists of lines and words, and the type of a script that they speak of. The parser
-//! and the printer cite them.
+//! The definitions are in `specs/`, over whole lists of lines and words. The types here are those
+//! of a script. The parser and the printer cite the definitions.
 #![tactic(auto)]
 
 mod script;

@@ -1,43 +1,45 @@
 use rb_base::{Event, Items, Setup};
 
-/// A limit that a line of a script may pass. Each is stated in the document of the script's language.
+/// A limit that a line of a script may exceed. The description of the script language states each
+/// of them.
 #[derive(Clone, Copy, Debug, PartialEq, Eq)]
 pub enum Limit {
-    /// The bytes of the script.
+    /// The length of the script in bytes.
     Bytes,
-    /// Its lines, skipped ones among them.
+    /// The number of lines, skipped lines included.
     Lines,
     Tables,
-    /// The columns of a table besides its key.
+    /// The number of columns of a table, without its key.
     Columns,
-    /// The bytes of the largest row of a table.
+    /// The length in bytes of a table's longest row.
     RowBytes,
-    /// The node groups of a site.
+    /// The number of node groups of a site.
     Groups,
-    /// The nodes of a group.
+    /// The number of nodes in a group.
     Replicas,
     /// The length in bytes from which a site's binlog files are rotated.
     LogLimit,
-    /// The changes of one transaction.
+    /// The number of changes of one transaction.
     TxChanges,
-    /// The changes of all transactions.
+    /// The number of changes of all transactions.
     Changes,
-    /// A bound on what the run keeps and sends: changes, and 32 for each close.
+    /// A bound on what the run keeps and sends: the number of changes, plus 32 for each close,
+    /// times how often all of them may be sent.
     Work,
 }
 
-/// What is wrong with a line.
+/// The reason for which a line is refused.
 #[derive(Clone, Copy, Debug, PartialEq, Eq)]
 pub enum ScriptKind {
-    /// It is none of the language's forms.
+    /// The line has none of the language's forms.
     Syntax,
-    /// It does not fit the lines before it.
+    /// The line does not fit the lines before it.
     Setup,
-    /// It passes this limit.
+    /// The line exceeds this limit.
     Limit(Limit),
 }
 
-/// A line that is refused, counted from 1. Line 0 is the script as a whole.
+/// A refused line by its number, counted from 1. Line 0 means the whole script.
 #[derive(Clone, Copy, Debug, PartialEq, Eq)]
 pub struct BadLine {
     pub line: u32,

@@ -3,5 +3,5 @@ pub mod ReadLaws
 pub mod Running
 pub mod TableLaws
 pub mod TakeLaws
-pub mod TellLaws
+pub mod PrintLaws
 pub mod Topping

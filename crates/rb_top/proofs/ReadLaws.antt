@@ -9,15 +9,15 @@ use Rattle.rb_base.specs.declared.faults.Field.{Field}
 use Rattle.rb_read_defs.specs.Stream.{Seen, seen_of}
 use Rattle.rb_read_defs.proofs.Growing.{seen_more}
 use Rattle.rb_top.specs.ReadLog.{bad_within, bad_event_of, HasMetBadEvent}
-use Rattle.rb_top.specs.Reading.{LeavesReading}
+use Rattle.rb_top.specs.ReadLoop.{LeavesReadingFault}
 use Rattle.rb_top.specs.declared.fault.ReadLogFault.{ReadLogFault}
 use Rattle.rb_top.specs.declared.fault.ReadLogFault.TheVariants as faults
 use Rattle.rb_top.specs.declared.status.Status.{Status}
 use Rattle.rb_top.specs.declared.status.Status.TheVariants as statuses
 
 -- the first bytes of more
-pub front_of : (most : ℕ) (bytes more : List ℕ) → length bytes ≤ most → take most (bytes ++ more) ≡ bytes ++ take (most - length bytes) more
-front_of most bytes more within =
+pub prefix_of : (most : ℕ) (bytes more : List ℕ) → length bytes ≤ most → take most (bytes ++ more) ≡ bytes ++ take (most - length bytes) more
+prefix_of most bytes more within =
     let whole : length bytes + (most - length bytes) ≡ most = omega arith in
     ap (λ (n : ℕ). take n (bytes ++ more)) (sym whole) ∙ take-append-add bytes more (most - length bytes)
 
@@ -31,7 +31,7 @@ or_none : (o : Option (ℕ × Field)) → option_or o None ≡ o
 or_none None = refl
 or_none (Some x) = refl
 
--- the first bad event stays so, whatever stands behind
+-- the first bad event stays so, whatever stands after
 bad_more : (most : ℕ) (bytes more : List ℕ) (x : ℕ × Field) → bad_within most bytes ≡ Some x → bad_within most (bytes ++ more) ≡ Some x
 unfolding bad_within
 bad_more most bytes more x is = elim (cases_lt most (length bytes)) [
@@ -41,7 +41,7 @@ bad_more most bytes more x is = elim (cases_lt most (length bytes)) [
       rw (take-append-le most bytes more (omega arith), lt-ltb most (length (bytes ++ more)) (omega arith)) (rw is_long at is)
   | inr within ↦
       let bad : (seen_of 0 bytes).fault ≡ Some x = sym (or_none (seen_of 0 bytes).fault) ∙ (rw (take_all most bytes within, le-ltb most (length bytes) within) at is) in
-      rw (front_of most bytes more within, seen_bad bytes (take (most - length bytes) more) x bad) refl
+      rw (prefix_of most bytes more within, seen_bad bytes (take (most - length bytes) more) x bad) refl
 ]
 
 -- the bad event that a reading met is the first one of the log
@@ -51,8 +51,8 @@ named_bad_event most at field (Some xs) None ho hn met = absurd met.read
 named_bad_event most at field (Some xs) (Some ys) ho hn met = ap (bad_within most) met.read ∙ bad_more most met.bytes ys (at, field) met.bad
 
 -- what the fault says
-pub met_by : (most : ℕ) (lo ln ho hn : Option (List ℕ)) (fault : ReadLogFault) (at : ℕ) (field : Field) → fault ≡ faults.BadLog at field → LeavesReading most lo ln ho hn fault → HasMetBadEvent most at field lo ln ho hn
-met_by most lo ln ho hn fault at field is left = subst (λ (f : ReadLogFault). LeavesReading most lo ln ho hn f) is left
+pub met_by : (most : ℕ) (lo ln ho hn : Option (List ℕ)) (fault : ReadLogFault) (at : ℕ) (field : Field) → fault ≡ faults.BadLog at field → LeavesReadingFault most lo ln ho hn fault → HasMetBadEvent most at field lo ln ho hn
+met_by most lo ln ho hn fault at field is left = subst (λ (f : ReadLogFault). LeavesReadingFault most lo ln ho hn f) is left
 
 -- the bad event that a status names
 event_in : Status → Option (ℕ × Field)
@@ -70,7 +70,7 @@ named_so lo at other field wrong is named = subst (λ (o : Option (ℕ × Field)
 
 -- what is said of a source's bytes
 of_bytes : (P : List ℕ → Type 0) (left : Option (List ℕ)) (bytes : List ℕ) → IfSome left P → left ≡ Some bytes → P bytes
-of_bytes P left bytes told is = subst (λ (o : Option (List ℕ)). IfSome o P) is told
+of_bytes P left bytes reported is = subst (λ (o : Option (List ℕ)). IfSome o P) is reported
 
 -- a log has one first bad event
 pub one_bad : (lo : Option (List ℕ)) (bytes : List ℕ) (at other : ℕ) (field wrong : Field) → IfSome lo (λ bytes. bad_event_of bytes ≡ Some (at, field)) → lo ≡ Some bytes → bad_event_of bytes ≡ Some (other, wrong) → statuses.BadLog at field ≡ statuses.BadLog other wrong

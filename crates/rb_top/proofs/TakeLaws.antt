@@ -1,4 +1,4 @@
--- The steps that a decoder answers, and what they print.
+-- The steps that a decoder returns, and what they print.
 use Rattle.std.proofs.Common.{◌≡◌, ℕ, zero, suc, ◌+◌, ◌<◌, ◌≤◌, Bool, true, false, List, [], ◌∷◌, ◌++◌, length, drop, refl, sym, ap, ap₂, subst, ◌∙◌, arith, append_assoc, append-nil, length-append, Result, Ok, Err}
 use Rattle.std.specs.Prelude.{◌==◌, nat_le, nat_lt, if◌then◌else◌, take, find, Option, Some, None, IfSome}
 use Rattle.std.specs.List.{flat_map, AllByRecursion}
@@ -26,7 +26,7 @@ use Rattle.rb_stream.specs.declared.fault.StreamFault.{StreamFault}
 use Rattle.rb_stream.specs.declared.fault.StreamFault.TheVariants as faults
 use Rattle.rb_text_defs.specs.LogText.{Ascend}
 use Rattle.rb_top.specs.ReadLog.{step_text}
-use Rattle.rb_top.specs.Reading.{is_taken, IsPrintable, HasTaken, HasTakenAll}
+use Rattle.rb_top.specs.ReadLoop.{is_taken, IsPrintable, HasTaken, HasTakenAll}
 
 -- no more events are seen than are cut out of the bytes
 seen_few : (earlier : List Known) (all : List Cut) → length (seen_from earlier all).known ≤ length earlier + length all
@@ -85,7 +85,7 @@ needs_more (steps.Rotate position name) is = absurd (let no : true ≡ false = i
 needs_more steps.Format is = absurd (let no : true ≡ false = is in cc)
 needs_more steps.NeedMore is = refl
 
--- what a decoder answers next, at whatever it stands for
+-- what a decoder returns next, at whatever it represents
 abbrev pub AnswersNext : (before after : Decoder) → Result Step StreamFault → Type 0
 AnswersNext before after result = (position : ℕ) (bytes : List ℕ) (passed : List Known) → StandsFor before position bytes passed → Answers position bytes passed result after
 
@@ -107,7 +107,7 @@ taken_more before after bytes passed first text now turns result step is some ne
       counted = let all = ap length given.events in let l = length-append given.quiet had.now in let c = had.counted in omega arith;
     }
 
--- all steps, where none is left
+-- all steps, if none is left
 pub taken_all : (before after : Decoder) (bytes : List ℕ) (passed : List Known) (first text now : List ℕ) (turns : ℕ) (result : Result Step StreamFault) (step : Step) →
     result ≡ Ok step → is_taken step ≡ false → AnswersNext before after result → HasTaken before bytes passed first text turns → now ≡ text ++ step_text step → HasTakenAll after bytes passed first now None
 unfolding step_text
@@ -188,7 +188,7 @@ all_printable earlier event = go event.says
     go (Statuses rows) = tt
     go Skipped = tt
 
--- a step that a decoder answers can be printed
+-- a step that a decoder returns can be printed
 pub printable : (before after : Decoder) (bytes : List ℕ) (passed : List Known) (result : Result Step StreamFault) (step : Step) → result ≡ Ok step → AnswersNext before after result → StandsFor before 0 bytes passed → IsPrintable step
 printable before after bytes passed result step is next stands = go step (subst (λ (r : Result Step StreamFault). Answers 0 bytes passed r after) is (next 0 bytes passed stands))
   where

@@ -18,7 +18,7 @@ use Rattle.rb_script.specs.declared.fault.ParseFault.TheVariants as parsing
 use Rattle.rb_base.specs.declared.site.SiteId.{SiteId}
 use Rattle.rb_base.specs.declared.site.SiteId.TheVariants.{A, B}
 use Rattle.rb_disk.specs.Disk.{IsLowestFile}
-use Rattle.rb_play_defs.specs.Part.{HoldsPart}
+use Rattle.rb_play_defs.specs.UnfinishedLog.{HoldsUnfinishedLog}
 use Rattle.rb_top.proofs.Running.{whole_log}
 use Rattle.rb_top.specs.declared.status.Status.{Status}
 use Rattle.rb_top.specs.Program.{IsReadFrom, IsDiskFault, HasStopped, AreEmpty, IsFirstHeld}
@@ -52,13 +52,13 @@ bad_whole None new bytes bad consumed end is = tt
 bad_whole (Some xs) None bytes bad consumed end is = absurd consumed
 bad_whole (Some xs) (Some ys) bytes bad consumed end is = ap script_of (consumed ∙ ap (λ (rest : List ℕ). bytes ++ rest) end ∙ append-nil bytes) ∙ is
 
--- what is told of a source's bytes is told of these
+-- what is said of a source's bytes holds of these
 pub of_bytes : (P : List ℕ → Type 0) (left : Option (List ℕ)) (bytes : List ℕ) → IfSome left P → left ≡ Some bytes → P bytes
-of_bytes P left bytes told is = subst (λ (o : Option (List ℕ)). IfSome o P) is told
+of_bytes P left bytes reported is = subst (λ (o : Option (List ℕ)). IfSome o P) is reported
 
--- what a fault of the parser tells
+-- the causes of a parser's faults
 pub bad_is : (bytes : List ℕ) (fault : ParseFault) (line : ℕ) (kind : ScriptKind) → fault ≡ parsing.Bad line kind → IfBad {T = Script} (Err fault) (λ line kind. script_of bytes ≡ Err (record { line = line; kind = kind })) → script_of bytes ≡ Err (bad_line line kind)
-bad_is bytes fault line kind is told = subst (λ (f : ParseFault). IfBad {T = Script} (Err f) (λ line kind. script_of bytes ≡ Err (record { line = line; kind = kind }))) is told
+bad_is bytes fault line kind is reported = subst (λ (f : ParseFault). IfBad {T = Script} (Err f) (λ line kind. script_of bytes ≡ Err (record { line = line; kind = kind }))) is reported
 
 -- the bad line that a status names
 bad_in : Status → BadLine
@@ -68,7 +68,7 @@ bad_in status = bad_line 0 kinds.Syntax
 -- a status that names a line names the first bad one
 pub named_bad : (left : Option (List ℕ)) (bad : BadLine) (line : ℕ) (kind : ScriptKind) → statuses.BadScript bad.line bad.kind ≡ statuses.BadScript line kind → IfSome left (λ bytes. script_of bytes ≡ Err bad) → IfSome left (λ bytes. script_of bytes ≡ Err (record { line = line; kind = kind }))
 unfolding bad_in
-named_bad left bad line kind is told = subst (λ (b : BadLine). IfSome left (λ bytes. script_of bytes ≡ Err b)) (ap bad_in is) told
+named_bad left bad line kind is reported = subst (λ (b : BadLine). IfSome left (λ bytes. script_of bytes ≡ Err b)) (ap bad_in is) reported
 
 bad_or : BadLine → Result Script BadLine → BadLine
 bad_or default (Ok script) = default
@@ -92,12 +92,12 @@ nothing_printed : (held : Option (List ℕ)) (report : List ℕ) → GrowsByPref
 nothing_printed held report = (0, omega arith, appends_nothing held)
 
 -- a run that stopped, by what it left of the log
-pub stopped : (left_old left_new held_old held_new : Option (List ℕ)) (seen : ℕ → List ℕ) (script : Script) (status : Status) → IsReadFrom left_old script → IsAtEnd left_new → GrowsByPrefix held_old held_new (report_of script) → (IsDiskFault status → Keeps held_old held_new) → (status ≡ statuses.WriteFault → HoldsLogOf script seen) → (Keeps held_old held_new ⊎ HoldsLogOf script seen) → HoldsPart script.setup.a.limit 0 (log_of script) seen → HasStopped left_old left_new held_old held_new seen status
+pub stopped : (left_old left_new held_old held_new : Option (List ℕ)) (seen : ℕ → List ℕ) (script : Script) (status : Status) → IsReadFrom left_old script → IsAtEnd left_new → GrowsByPrefix held_old held_new (report_of script) → (IsDiskFault status → Keeps held_old held_new) → (status ≡ statuses.WriteFault → HoldsLogOf script seen) → (Keeps held_old held_new ⊎ HoldsLogOf script seen) → HoldsUnfinishedLog script.setup.a.limit 0 (log_of script) seen → HasStopped left_old left_new held_old held_new seen status
 stopped left_old left_new held_old held_new seen script status read end report silent whole printed part =
     record { script = script; read = read; end = end; report = report; log = part; silent = silent; printed = printed; whole = whole }
 
--- by a fault of the device, or want of memory within the run: nothing was printed
-pub stopped_running : (left_old left_new held : Option (List ℕ)) (seen : ℕ → List ℕ) (script : Script) (status : Status) → (status ≡ statuses.WriteFault → ⊥) → IsReadFrom left_old script → IsAtEnd left_new → HoldsPart script.setup.a.limit 0 (log_of script) seen → HasStopped left_old left_new held held seen status
+-- by a fault of the device, or `NoMemory` within the run: nothing was printed
+pub stopped_running : (left_old left_new held : Option (List ℕ)) (seen : ℕ → List ℕ) (script : Script) (status : Status) → (status ≡ statuses.WriteFault → ⊥) → IsReadFrom left_old script → IsAtEnd left_new → HoldsUnfinishedLog script.setup.a.limit 0 (log_of script) seen → HasStopped left_old left_new held held seen status
 stopped_running left_old left_new held seen script status not_printing read end left =
     stopped left_old left_new held held seen script status read end (nothing_printed held (report_of script)) (λ _. keeps_self held) (λ same. absurd (not_printing same)) (inl (keeps_self held)) left
 

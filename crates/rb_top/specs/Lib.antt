@@ -1,4 +1,4 @@
 pub mod Program
 pub mod ReadLog
-pub mod Reading
+pub mod ReadLoop
 pub mod Run

@@ -1,4 +1,4 @@
--- What the program's call says at each status.
+-- What the program's call promises at each status.
 use Rattle.std.specs.Prelude.{◌≡◌, ℕ, ◌⊎◌, Bool, false, List, [], ◌∷◌, Option, Ok, IfSome, codes}
 use Rattle.std.specs.Str.{bytes_eq}
 use Rattle.std.specs.Io.KnownBytes.{Appends, Keeps, IsAtEnd}
@@ -9,7 +9,7 @@ use Rattle.rb_base.specs.declared.site.SiteId.{SiteId}
 use Rattle.rb_base.specs.declared.site.SiteId.TheVariants.{A, B}
 use Rattle.rb_disk.specs.Disk.{IsLowestFile}
 use Rattle.rb_play_defs.specs.Play.{log_of, report_of, HoldsLogOf}
-use Rattle.rb_play_defs.specs.Part.{HoldsPart}
+use Rattle.rb_play_defs.specs.UnfinishedLog.{HoldsUnfinishedLog}
 use Rattle.rb_top.specs.declared.status.Status.{Status}
 use Rattle.rb_top.specs.declared.status.Status.TheVariants as statuses
 
@@ -28,7 +28,7 @@ abbrev pub IsDiskFault : Status → Type 0
 IsDiskFault (statuses.DiskFault site) = Unit {0}
 IsDiskFault status = ⊥
 
--- a device is not empty
+-- a device was not empty
 abbrev pub IsNotEmpty : Status → Type 0
 IsNotEmpty (statuses.NotEmpty site file size) = Unit {0}
 IsNotEmpty status = ⊥
@@ -37,12 +37,13 @@ IsNotEmpty status = ⊥
 abbrev pub AreEmpty : (seen_a seen_b : ℕ → List ℕ) → Type 0
 AreEmpty seen_a seen_b = ((file : ℕ) → seen_a file ≡ []) × ((file : ℕ) → seen_b file ≡ [])
 
--- the first file that is not empty, site A before site B and the lowest first, is this one of this site, and it has this length
+-- this file of this site is the first that is not empty, site A before site B and the lowest file
+-- first, and has this length
 abbrev pub IsFirstHeld : SiteId → (file size : ℕ) → (seen_a seen_b : ℕ → List ℕ) → Type 0
 IsFirstHeld A file size seen_a seen_b = IsLowestFile file size seen_a
 IsFirstHeld B file size seen_a seen_b = ((other : ℕ) → seen_a other ≡ []) × IsLowestFile file size seen_b
 
--- the run was never begun
+-- the run did not begin
 abbrev pub IsBeforeRun : Status → Type 0
 IsBeforeRun statuses.Usage = Unit {0}
 IsBeforeRun (statuses.NotEmpty site file size) = Unit {0}
@@ -56,12 +57,12 @@ IsRunFault (statuses.DiskFault site) = Unit {0}
 IsRunFault statuses.WriteFault = Unit {0}
 IsRunFault status = ⊥
 
--- a log has a bad event
+-- the log has a bad event
 abbrev pub IsBadLog : Status → Type 0
 IsBadLog (statuses.BadLog position field) = Unit {0}
 IsBadLog status = ⊥
 
--- how the reading of a log may end
+-- the statuses with which the reading of a log ends
 abbrev pub IsReadingEnd : Status → Type 0
 IsReadingEnd statuses.Done = Unit {0}
 IsReadingEnd (statuses.BadLog position field) = Unit {0}
@@ -70,18 +71,19 @@ IsReadingEnd statuses.WriteFault = Unit {0}
 IsReadingEnd statuses.NoMemory = Unit {0}
 IsReadingEnd status = ⊥
 
--- the reading of a log was given up
+-- the reading of a log stopped early
 abbrev pub IsReadingFault : Status → Type 0
 IsReadingFault statuses.ReadFault = Unit {0}
 IsReadingFault statuses.WriteFault = Unit {0}
 IsReadingFault statuses.NoMemory = Unit {0}
 IsReadingFault status = ⊥
 
--- the script that these bytes are the text of, where the source tells its bytes
+-- these bytes are the text of this script, if the source names its bytes
 abbrev pub IsReadFrom : Option (List ℕ) → Script → Type 0
 IsReadFrom left script = IfSome left (λ bytes. script_of bytes ≡ Ok script)
 
--- the whole of a script was read and run: the report was appended to the sink, and the device holds the log, whole
+-- the whole script was read and run: the sink grew by the report, and the device holds the whole
+-- log
 pub record HasRun (left_old left_new held_old held_new : Option (List ℕ)) (seen : ℕ → List ℕ) : Type 0 where
   pub script : Script
   pub read : IsReadFrom left_old script
@@ -89,20 +91,21 @@ pub record HasRun (left_old left_new held_old held_new : Option (List ℕ)) (see
   pub report : Appends held_old held_new (report_of script)
   pub log : HoldsLogOf script seen
 
--- the run of a script was begun, and stopped with this status: the script was read to its end, the sink has a front of the
--- report, and the device can be opened again with the log of the first so many epochs; nothing is printed at a fault of the device,
--- nor before the log is whole; at a fault of the sink it is
+-- the run of a script began and stopped with this status. The script was read to its end. The sink
+-- grew by a prefix of the report, and the device can be recovered with the log of the script's
+-- first epochs. Nothing is printed at a fault of the device, nor before the log is whole; at a
+-- fault of the sink the log is whole.
 pub record HasStopped (left_old left_new held_old held_new : Option (List ℕ)) (seen : ℕ → List ℕ) (status : Status) : Type 0 where
   pub script : Script
   pub read : IsReadFrom left_old script
   pub end : IsAtEnd left_new
   pub report : GrowsByPrefix held_old held_new (report_of script)
-  pub log : HoldsPart script.setup.a.limit 0 (log_of script) seen
+  pub log : HoldsUnfinishedLog script.setup.a.limit 0 (log_of script) seen
   pub silent : IsDiskFault status → Keeps held_old held_new
   pub printed : Keeps held_old held_new ⊎ HoldsLogOf script seen
   pub whole : status ≡ statuses.WriteFault → HoldsLogOf script seen
 
--- the sink and the files of site A's device are as they were; the source may have been read
+-- the sink and the files of site A's device are unchanged; the source may have been read
 pub record IsUntouched (held_old held_new : Option (List ℕ)) (files_old files_new : ℕ → List ℕ) : Type 0 where
   pub report : Keeps held_old held_new
   pub files : (file : ℕ) → files_new file ≡ files_old file

@@ -1,5 +1,5 @@
 ghost use Rattle.std.specs.Prelude.{◌≡◌};
-ghost use Rattle.rb_top.specs.Reading.{read_fault_of};
+ghost use Rattle.rb_top.specs.ReadLoop.{read_fault_of};
 ghost use Rattle.rb_top.specs.declared.fault.ReadLogFault.TheVariants.{ReadFault as SourceFailed, NoMemory as OutOfMemory};
 
 use rb_base::{Failed, Field, NoMemory, OutFault};
@@ -8,7 +8,8 @@ use std::alloc::AllocError;
 /// Why a log was not read to its end.
 #[derive(Clone, Copy, Debug, PartialEq, Eq)]
 pub(crate) enum ReadLogFault {
-    /// The event at this position, in bytes from the log's start, is bad: this field of it is wrong.
+    /// The event at `position`, in bytes from the log's start, is bad: `field` is its first wrong
+    /// field.
     BadLog { position: u64, field: Field },
     /// The source failed, and its count of faults rose.
     ReadFault,

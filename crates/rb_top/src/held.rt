@@ -7,16 +7,18 @@ use rb_disk::{LogDisk, lowest_file};
 /// A file that is not empty.
 #[derive(Clone, Copy, Debug)]
 pub(crate) struct HeldFile {
-    /// The site of its device.
+    /// The site that the device belongs to.
     pub(crate) site: SiteId,
     pub(crate) file: u32,
-    /// In bytes.
+    /// The file's length, in bytes.
     pub(crate) length: u64,
 }
 
-/// The first file of two devices that is not empty: site A's device first, and the lowest file first.
+/// Returns the first file that is not empty, site A's device before site B's and the lowest file
+/// first; `None` if both devices are empty.
 pub(crate) fn first_held<D: LogDisk>(disk_a: &D, disk_b: &D) -> Option<HeldFile>
-    ensures held { IfSome result (λ found. IsFirstHeld found.site found.file found.length (D.seen disk_a.now) (D.seen disk_b.now)) }
+    ensures held { IfSome result (λ found.
+        IsFirstHeld found.site found.file found.length (D.seen disk_a.now) (D.seen disk_b.now)) }
     ensures empty { IsNone result → AreEmpty (D.seen disk_a.now) (D.seen disk_b.now) }
 {
     if let Some((file, length)) = lowest_file(disk_a) {

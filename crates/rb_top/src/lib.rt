@@ -1,8 +1,9 @@
-//! The program: it reads a script, runs it over site A and its log device, and prints the report; or it reads a log back and
-//! prints its epochs.
+//! The program. It reads a script, runs it over site A and its log device, and prints the report;
+//! or it reads a log and prints its epochs.
 //!
-//! [`top`] carries the project's theorem: what the sink and the device hold at each status, and when each status comes.
-//! Below stand the parser, the site, the printer, and the edges; the program's `main` stands above.
+//! [`top`] carries the project's theorem: what the sink and the device hold at each status, and
+//! when each status comes. The parser, the site, the printer and the edges stand below; the
+//! program's `main` stands above.
 #![tactic(auto)]
 
 mod fault;
@@ -16,6 +17,3 @@ mod words;
 
 pub use program::top;
 pub use status::Status;
-
-#[cfg(test)]
-mod tests;

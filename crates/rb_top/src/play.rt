@@ -7,10 +7,10 @@ ghost use Rattle.rb_text_defs.specs.Legal.{IsLegal};
 ghost use Rattle.rb_text_defs.specs.Report.{outcome_line};
 ghost use Rattle.rb_play_defs.specs.Step.{Progress, beginning, site_step, written_bodies};
 ghost use Rattle.rb_play_defs.specs.Play.{shape_of, log_step, event_step, play, log_of};
-ghost use Rattle.rb_play_defs.specs.Part.{HoldsPart};
+ghost use Rattle.rb_play_defs.specs.UnfinishedLog.{HoldsUnfinishedLog};
 ghost use Rattle.rb_disk.specs.Fault.{HasDiskCause};
 ghost use Rattle.rb_site.specs.Site.{IsSite, CanTake, EventFits, AreDeclared, limit_of, shape_of as site_shape};
-ghost use Rattle.rb_top.specs.Run.{CanPlay, HasRoomFor, joined, told, turn_of};
+ghost use Rattle.rb_top.specs.Run.{CanPlay, HasRoomFor, joined, reported, action_of};
 
 use rb_base::{Event, NoMemory, Outcome, Setup};
 use rb_disk::{DiskLogFault, LogDisk};
@@ -19,19 +19,19 @@ use rb_script::LinedEvents;
 use rb_site::{InjectFault, Site, SiteEvent, Stepped};
 use std::alloc::Global;
 
-/// What an event of a script is for the site.
+/// What an event of a script does at the site.
 #[derive(Drop)]
-pub(crate) enum Turn {
+pub(crate) enum Action {
     /// One event of the site.
     Step(SiteEvent),
-    /// The delivery of all messages, and the injector's turn.
+    /// Delivers all messages, then injects.
     Log,
     /// Nothing: the event does not run yet.
     Idle,
 }
 
-/// Plays the events of a script in turn at a new site, whose device is empty, and appends a line for each that tells what it
-/// did.
+/// Plays a script's events in order at a new site whose device is empty, and appends one line of
+/// the report for each.
 pub(crate) fn play<D: LogDisk>(
     alloc: Global,
     setup: &Setup,
@@ -41,30 +41,38 @@ pub(crate) fn play<D: LogDisk>(
 ) -> Result<Site, DiskLogFault>
     requires legal { IsLegal (record { setup = setup.now; events = events }) }
     requires empty { (file : ℕ) → D.seen disk.old file ≡ [] }
-    ensures played { IfOk result (λ site. IsSite (shape_of setup.now) site (D.seen disk.new) (play (record { setup = setup.now; events = events })).run) }
+    ensures played { IfOk result (λ site.
+        IsSite (shape_of setup.now) site (D.seen disk.new)
+        (play (record { setup = setup.now; events = events })).run) }
     ensures limit { IfOk result (λ site. limit_of site ≡ setup.now.a.limit) }
-    ensures told { OnOk result (text.new.items ≡ text.old.items ++ told (play (record { setup = setup.now; events = events })).outcomes) }
-    ensures stopped { OnErr result (HoldsPart setup.now.a.limit 0 (log_of (record { setup = setup.now; events = events })) (D.seen disk.new)) }
+    ensures reported { OnOk result (text.new.items ≡ text.old.items
+        ++ reported (play (record { setup = setup.now; events = events })).outcomes) }
+    ensures stopped { OnErr result
+        (HoldsUnfinishedLog setup.now.a.limit 0
+        (log_of (record { setup = setup.now; events = events })) (D.seen disk.new)) }
     ensures cause { HasDiskCause (D.fault_count disk.old) (D.fault_count disk.new) result }
 {
     let mut site = begin(alloc, setup, disk)?;
     for lined in events.into_vec() {
         let (after, outcome) = play_event(site, lined.event, disk)?;
         site = after;
-        tell(alloc, text, lined.line, outcome)?;
+        put_answer(alloc, text, lined.line, outcome)?;
     }
     Ok(site)
 }
 
-// Site A of a script at its start, over an empty device.
+// Creates site A of a script over an empty device.
 fn begin<D: LogDisk>(alloc: Global, setup: &Setup, disk: &mut D) -> Result<Site, DiskLogFault>
-    requires declared { AreDeclared (site_shape setup.now.tables setup.now.a.groups setup.now.a.replicas) }
+    requires declared { AreDeclared
+        (site_shape setup.now.tables setup.now.a.groups setup.now.a.replicas) }
     requires some { 0 < setup.now.a.groups * setup.now.a.replicas }
     requires few { setup.now.a.groups * setup.now.a.replicas < 2 ^ 32 }
     requires tables { length setup.now.tables < 2 ^ 16 }
     requires limit { IsLimit setup.now.a.limit }
     requires empty { (file : ℕ) → D.seen disk.old file ≡ [] }
-    ensures begun { IfOk result (λ site. IsSite (site_shape setup.now.tables setup.now.a.groups setup.now.a.replicas) site (D.seen disk.new) (beginning setup.now.a.groups setup.now.a.replicas)) }
+    ensures begun { IfOk result (λ site.
+        IsSite (site_shape setup.now.tables setup.now.a.groups setup.now.a.replicas) site
+        (D.seen disk.new) (beginning setup.now.a.groups setup.now.a.replicas)) }
     ensures limit { IfOk result (λ site. limit_of site ≡ setup.now.a.limit) }
     ensures stopped { OnErr result (IsLogImage A setup.now.a.limit [] (D.seen disk.new)) }
     ensures cause { HasDiskCause (D.fault_count disk.old) (D.fault_count disk.new) result }
@@ -78,67 +86,82 @@ fn begin<D: LogDisk>(alloc: Global, setup: &Setup, disk: &mut D) -> Result<Site,
     }
 }
 
-// Appends the line that tells what an event did.
-fn tell(alloc: Global, text: &mut Vec<u8>, line: u32, outcome: Outcome) -> Result<(), NoMemory>
-    ensures { OnOk result (text.new.items ≡ text.old.items ++ (outcome_line line outcome ++ 10 ∷ [])) }
+// Appends the line that reports what an event did.
+fn put_answer(
+    alloc: Global,
+    text: &mut Vec<u8>,
+    line: u32,
+    outcome: Outcome,
+) -> Result<(), NoMemory>
+    ensures { OnOk result (text.new.items ≡ text.old.items
+        ++ (outcome_line line outcome ++ 10 ∷ [])) }
 {
     let printed = print_outcome(alloc, line, &outcome)?;
     text.extend_from_slice(printed.as_slice())?;
     Ok(())
 }
 
-// One event of a script, and its answer.
+// Plays one event of a script and returns its outcome.
 fn play_event<D: LogDisk>(
     site: Site,
     event: Event,
     disk: &mut D,
 ) -> Result<(Site, Outcome), DiskLogFault>
     requires room { CanPlay site (D.seen disk.old) event }
-    ensures played { IfOk result (λ pair. (shape : Shape) (run : Progress) → IsSite shape site (D.seen disk.old) run → HasRoomFor shape site event →
-        IsSite shape pair.0 (D.seen disk.new) (event_step shape run event).run × (pair.1 ≡ (event_step shape run event).outcome)) }
+    ensures played { IfOk result (λ pair. (shape : Shape) (run : Progress) →
+        IsSite shape site (D.seen disk.old) run → HasRoomFor shape site event →
+        IsSite shape pair.0 (D.seen disk.new) (event_step shape run event).run
+        × (pair.1 ≡ (event_step shape run event).outcome)) }
     ensures limit { IfOk result (λ pair. limit_of pair.0 ≡ limit_of site) }
-    ensures stopped { OnErr result ((shape : Shape) (run : Progress) → IsSite shape site (D.seen disk.old) run →
-        HoldsPart (limit_of site) 0 (written_bodies shape (event_step shape run event).run) (D.seen disk.new)) }
+    ensures stopped { OnErr result ((shape : Shape) (run : Progress) →
+        IsSite shape site (D.seen disk.old) run →
+        HoldsUnfinishedLog (limit_of site) 0 (written_bodies shape (event_step shape run event).run)
+        (D.seen disk.new)) }
     ensures cause { HasDiskCause (D.fault_count disk.old) (D.fault_count disk.new) result }
 {
-    match turn_of(event) {
-        Turn::Step(event) => step(site, &event, disk),
-        Turn::Log => log(site, disk),
-        Turn::Idle => Ok((site, Outcome::Nothing)),
+    match action_of(event) {
+        Action::Step(event) => step(site, &event, disk),
+        Action::Log => log(site, disk),
+        Action::Idle => Ok((site, Outcome::Nothing)),
     }
 }
 
-// What an event of a script is for the site.
-fn turn_of(event: Event) -> Turn
-    ensures { result ≡ turn_of event }
+// What an event of a script does at the site.
+fn action_of(event: Event) -> Action
+    ensures { result ≡ action_of event }
 {
     match event {
-        Event::Tx(_, operations) => Turn::Step(SiteEvent::Tx(operations)),
-        Event::Close(_, gci) => Turn::Step(SiteEvent::Close(gci)),
-        Event::Deliver(_, place) => Turn::Step(SiteEvent::Deliver(place)),
-        Event::DeliverAll(_) => Turn::Step(SiteEvent::DeliverAll),
-        Event::Inject(_) => Turn::Step(SiteEvent::Inject),
-        Event::Fail(_, node) => Turn::Step(SiteEvent::Fail(node)),
-        Event::Restart(_, node) => Turn::Step(SiteEvent::Restart(node)),
-        Event::Resend(_) => Turn::Step(SiteEvent::Resend),
-        Event::Injector(_) => Turn::Step(SiteEvent::Injector),
-        Event::Log(_) => Turn::Log,
-        _ => Turn::Idle,
+        Event::Tx(_, operations) => Action::Step(SiteEvent::Tx(operations)),
+        Event::Close(_, gci) => Action::Step(SiteEvent::Close(gci)),
+        Event::Deliver(_, place) => Action::Step(SiteEvent::Deliver(place)),
+        Event::DeliverAll(_) => Action::Step(SiteEvent::DeliverAll),
+        Event::Inject(_) => Action::Step(SiteEvent::Inject),
+        Event::Fail(_, node) => Action::Step(SiteEvent::Fail(node)),
+        Event::Restart(_, node) => Action::Step(SiteEvent::Restart(node)),
+        Event::Resend(_) => Action::Step(SiteEvent::Resend),
+        Event::Injector(_) => Action::Step(SiteEvent::Injector),
+        Event::Log(_) => Action::Log,
+        _ => Action::Idle,
     }
 }
 
-// One event of the site, and its answer. A site that stopped is given up, since nothing comes behind a fault.
+// Plays one event of the site and returns its outcome. A stopped site is dropped, since no event
+// follows a fault.
 fn step<D: LogDisk>(
     site: Site,
     event: &SiteEvent,
     disk: &mut D,
 ) -> Result<(Site, Outcome), DiskLogFault>
     requires fits { CanTake site (D.seen disk.old) event.now }
-    ensures stepped { IfOk result (λ pair. (shape : Shape) (run : Progress) → IsSite shape site (D.seen disk.old) run → EventFits shape site event.now →
-        IsSite shape pair.0 (D.seen disk.new) (site_step shape run event.now).run × (pair.1 ≡ (site_step shape run event.now).outcome)) }
+    ensures stepped { IfOk result (λ pair. (shape : Shape) (run : Progress) →
+        IsSite shape site (D.seen disk.old) run → EventFits shape site event.now →
+        IsSite shape pair.0 (D.seen disk.new) (site_step shape run event.now).run
+        × (pair.1 ≡ (site_step shape run event.now).outcome)) }
     ensures limit { IfOk result (λ pair. limit_of pair.0 ≡ limit_of site) }
-    ensures stopped { OnErr result ((shape : Shape) (run : Progress) → IsSite shape site (D.seen disk.old) run →
-        HoldsPart (limit_of site) run.written (written_bodies shape (site_step shape run event.now).run) (D.seen disk.new)) }
+    ensures stopped { OnErr result ((shape : Shape) (run : Progress) →
+        IsSite shape site (D.seen disk.old) run →
+        HoldsUnfinishedLog (limit_of site) run.written
+        (written_bodies shape (site_step shape run event.now).run) (D.seen disk.new)) }
     ensures cause { HasDiskCause (D.fault_count disk.old) (D.fault_count disk.new) result }
 {
     match site.step(event, disk) {
@@ -148,14 +171,18 @@ fn step<D: LogDisk>(
     }
 }
 
-// Every message that waits is delivered, and then the injector has its turn.
+// Delivers every waiting message, then injects.
 fn log<D: LogDisk>(site: Site, disk: &mut D) -> Result<(Site, Outcome), DiskLogFault>
     requires stands { (shape : Shape) × (run : Progress) × IsSite shape site (D.seen disk.old) run }
-    ensures played { IfOk result (λ pair. (shape : Shape) (run : Progress) → IsSite shape site (D.seen disk.old) run →
-        IsSite shape pair.0 (D.seen disk.new) (log_step shape run).run × (pair.1 ≡ (log_step shape run).outcome)) }
+    ensures played { IfOk result (λ pair. (shape : Shape) (run : Progress) →
+        IsSite shape site (D.seen disk.old) run →
+        IsSite shape pair.0 (D.seen disk.new) (log_step shape run).run
+        × (pair.1 ≡ (log_step shape run).outcome)) }
     ensures limit { IfOk result (λ pair. limit_of pair.0 ≡ limit_of site) }
-    ensures stopped { OnErr result ((shape : Shape) (run : Progress) → IsSite shape site (D.seen disk.old) run →
-        HoldsPart (limit_of site) 0 (written_bodies shape (log_step shape run).run) (D.seen disk.new)) }
+    ensures stopped { OnErr result ((shape : Shape) (run : Progress) →
+        IsSite shape site (D.seen disk.old) run →
+        HoldsUnfinishedLog (limit_of site) 0 (written_bodies shape (log_step shape run).run)
+        (D.seen disk.new)) }
     ensures cause { HasDiskCause (D.fault_count disk.old) (D.fault_count disk.new) result }
 {
     let (site, delivered) = step(site, &SiteEvent::DeliverAll, disk)?;
@@ -163,7 +190,7 @@ fn log<D: LogDisk>(site: Site, disk: &mut D) -> Result<(Site, Outcome), DiskLogF
     Ok((site, logged(delivered, wrote)))
 }
 
-// The answer to `log`, from those to its two halves.
+// Returns the outcome of `log`, given the outcomes of its two halves.
 fn logged(delivered: Outcome, wrote: Outcome) -> Outcome
     ensures { result ≡ joined delivered wrote }
 {

@@ -4,7 +4,7 @@ ghost use Rattle.rb_text_defs.specs.declared.script.BadLine.{BadLine};
 ghost use Rattle.rb_text_defs.specs.declared.script.Script.{Script};
 ghost use Rattle.rb_text_defs.specs.Script.{script_of};
 ghost use Rattle.rb_top.specs.Program.{are_run, are_read, AreEmpty, IsFirstHeld, IsNotEmpty, IsBadLog, IsDiskFault, IsBeforeRun, IsRunFault, IsReadingEnd, IsReadingFault, HasRun, HasStopped, IsUntouched};
-ghost use Rattle.rb_top.specs.ReadLog.{most_log_bytes, bad_event_of, HasReadLog, HasMetBadEvent, HasReadPart};
+ghost use Rattle.rb_top.specs.ReadLog.{most_log_bytes, bad_event_of, HasReadLog, HasMetBadEvent, HasReadPrefix};
 
 use crate::fault::ReadLogFault;
 use crate::held::{HeldFile, first_held};
@@ -19,9 +19,14 @@ use rb_script::{Limit, MOST_SCRIPT_BYTES, ParseFault, ScriptKind, parse};
 use std::alloc::Global;
 use std::thread::Threads;
 
-/// Runs the program. The one word `run` looks whether both devices are empty, reads the script from the source, runs it over
-/// site A, whose log goes to its device, the index to file 0 and the binlog to the files from 1 on, and writes the report to the
-/// sink. The one word `read` reads a log from the source and writes its text to the sink, and changes no device.
+/// Runs the program.
+///
+/// The one word `run` requires empty devices. It reads a script from the source, runs it over site
+/// A, and writes the report to the sink. Site A's device then holds its log: the index in file 0,
+/// the binlog in the files from 1 on.
+///
+/// The one word `read` reads a log from the source and writes its text to the sink. It changes no
+/// device.
 pub fn top<R: Threads + Sync, I: Source, O: Sink, D: LogDisk>(
     _rt: &R,
     alloc: Global,
@@ -31,14 +36,17 @@ pub fn top<R: Threads + Sync, I: Source, O: Sink, D: LogDisk>(
     disk_a: &mut D,
     disk_b: &mut D,
 ) -> Status
-    // The headline: at Done the script was read to its end, the sink grew by its report, and site A's device holds exactly the
-    // log of the epochs that its injector took and that have something to log: the binlog files, and the index.
+    // The headline. At `Done` the script was read to its end and the sink grew by its report. Site
+    // A's device holds exactly the log of the epochs that its injector took and that have something
+    // to log: the binlog files and the index.
     ensures run_meets_headline { are_run words.now ≡ true → result ≡ Status.Done →
-        HasRun (I.left script.old) (I.left script.new) (O.held out.old) (O.held out.new) (D.seen disk_a.new) }
+        HasRun (I.left script.old) (I.left script.new) (O.held out.old) (O.held out.new)
+        (D.seen disk_a.new) }
     ensures site_b_is_untouched { disk_b.new ≡ disk_b.old }
 
     // A legal script over empty devices is run, unless memory runs out or an object fails.
-    ensures a_legal_script_is_run { (bytes : List ℕ) (legal : Script) → are_run words.now ≡ true → AreEmpty (D.seen disk_a.old) (D.seen disk_b.old) →
+    ensures a_legal_script_is_run { (bytes : List ℕ) (legal : Script) → are_run words.now ≡ true →
+        AreEmpty (D.seen disk_a.old) (D.seen disk_b.old) →
         I.left script.old ≡ Some bytes →
         script_of bytes ≡ Ok legal →
         (Rose (I.fault_count script.old) (I.fault_count script.new) → ⊥) →
@@ -46,55 +54,82 @@ pub fn top<R: Threads + Sync, I: Source, O: Sink, D: LogDisk>(
         (Rose (D.fault_count disk_a.old) (D.fault_count disk_a.new) → ⊥) →
         (result ≡ Status.Done) ⊎ (result ≡ Status.NoMemory) }
 
-    // The same of a log: at Done it was read to its end and is sound, and the sink grew by its text.
+    // The same for a log. At `Done` it was read to its end and is sound, and the sink grew by its
+    // text.
     ensures reading_meets_its_text { are_read words.now ≡ true → result ≡ Status.Done →
-        HasReadLog most_log_bytes (I.left script.old) (I.left script.new) (O.held out.old) (O.held out.new) }
+        HasReadLog most_log_bytes (I.left script.old) (I.left script.new) (O.held out.old)
+        (O.held out.new) }
     ensures reading_touches_no_device { are_read words.now ≡ true → disk_a.new ≡ disk_a.old }
 
     // A sound log is read, unless memory runs out or an object fails.
-    ensures a_sound_log_is_read { (bytes : List ℕ) → are_read words.now ≡ true → I.left script.old ≡ Some bytes →
+    ensures a_sound_log_is_read { (bytes : List ℕ) → are_read words.now ≡ true →
+        I.left script.old ≡ Some bytes →
         bad_event_of bytes ≡ None →
         (Rose (I.fault_count script.old) (I.fault_count script.new) → ⊥) →
         (Rose (O.fault_count out.old) (O.fault_count out.new) → ⊥) →
         (result ≡ Status.Done) ⊎ (result ≡ Status.NoMemory) }
 
     // When each other status comes.
-    ensures usage_exactly { (result ≡ Status.Usage) ↔ ((are_run words.now ≡ false) × (are_read words.now ≡ false)) }
-    ensures not_empty_names_the_first_file { (site : SiteId) (file size : ℕ) → result ≡ Status.NotEmpty site file size →
-        (are_run words.now ≡ true) × IsFirstHeld site file size (D.seen disk_a.old) (D.seen disk_b.old) }
-    ensures a_device_that_is_not_empty_is_refused { (site : SiteId) (file size : ℕ) → are_run words.now ≡ true →
-        IsFirstHeld site file size (D.seen disk_a.old) (D.seen disk_b.old) → result ≡ Status.NotEmpty site file size }
-    ensures bad_script_names_the_first_bad_line { (line : ℕ) (kind : ScriptKind) → result ≡ Status.BadScript line kind →
-        IfSome (I.left script.old) (λ bytes. script_of bytes ≡ Err (record { line = line; kind = kind })) }
-    ensures a_bad_script_is_refused { (bytes : List ℕ) (bad : BadLine) → are_run words.now ≡ true → AreEmpty (D.seen disk_a.old) (D.seen disk_b.old) →
+    ensures usage_exactly { (result ≡ Status.Usage) ↔ ((are_run words.now ≡ false)
+        × (are_read words.now ≡ false)) }
+    ensures not_empty_names_the_first_file { (site : SiteId) (file size : ℕ) →
+        result ≡ Status.NotEmpty site file size →
+        (are_run words.now ≡ true) × IsFirstHeld site file size (D.seen disk_a.old)
+        (D.seen disk_b.old) }
+    ensures a_device_that_is_not_empty_is_refused { (site : SiteId) (file size : ℕ) →
+        are_run words.now ≡ true →
+        IsFirstHeld site file size (D.seen disk_a.old) (D.seen disk_b.old) →
+        result ≡ Status.NotEmpty site file size }
+    ensures bad_script_names_the_first_bad_line { (line : ℕ) (kind : ScriptKind) →
+        result ≡ Status.BadScript line kind →
+        IfSome (I.left script.old) (λ bytes. script_of bytes
+        ≡ Err (record { line = line; kind = kind })) }
+    ensures a_bad_script_is_refused { (bytes : List ℕ) (bad : BadLine) → are_run words.now ≡ true →
+        AreEmpty (D.seen disk_a.old) (D.seen disk_b.old) →
         I.left script.old ≡ Some bytes →
         script_of bytes ≡ Err bad →
-        (result ≡ Status.BadScript bad.line bad.kind) ⊎ (result ≡ Status.ReadFault) ⊎ (result ≡ Status.NoMemory) }
-    ensures bad_log_names_the_first_bad_event { (position : ℕ) (field : Field) → result ≡ Status.BadLog position field →
+        (result ≡ Status.BadScript bad.line bad.kind) ⊎ (result ≡ Status.ReadFault)
+        ⊎ (result ≡ Status.NoMemory) }
+    ensures bad_log_names_the_first_bad_event { (position : ℕ) (field : Field) →
+        result ≡ Status.BadLog position field →
         IfSome (I.left script.old) (λ bytes. bad_event_of bytes ≡ Some (position, field)) }
-    ensures a_bad_log_is_refused { (bytes : List ℕ) (position : ℕ) (field : Field) → are_read words.now ≡ true → I.left script.old ≡ Some bytes →
+    ensures a_bad_log_is_refused { (bytes : List ℕ) (position : ℕ) (field : Field) →
+        are_read words.now ≡ true → I.left script.old ≡ Some bytes →
         bad_event_of bytes ≡ Some (position, field) →
-        (result ≡ Status.BadLog position field) ⊎ (result ≡ Status.ReadFault) ⊎ (result ≡ Status.WriteFault) ⊎ (result ≡ Status.NoMemory) }
+        (result ≡ Status.BadLog position field) ⊎ (result ≡ Status.ReadFault)
+        ⊎ (result ≡ Status.WriteFault) ⊎ (result ≡ Status.NoMemory) }
     ensures a_run_meets_no_bad_log { are_run words.now ≡ true → IsBadLog result → ⊥ }
-    ensures a_reading_ends_so { are_read words.now ≡ true → IsReadingEnd result }
-    ensures read_fault_has_cause { result ≡ Status.ReadFault → Rose (I.fault_count script.old) (I.fault_count script.new) }
-    ensures write_fault_has_cause { result ≡ Status.WriteFault → Rose (O.fault_count out.old) (O.fault_count out.new) }
-    ensures disk_fault_has_cause { IsDiskFault result → Rose (D.fault_count disk_a.old) (D.fault_count disk_a.new) }
+    ensures a_reading_has_these_statuses { are_read words.now ≡ true → IsReadingEnd result }
+    ensures read_fault_has_cause { result ≡ Status.ReadFault →
+        Rose (I.fault_count script.old) (I.fault_count script.new) }
+    ensures write_fault_has_cause { result ≡ Status.WriteFault →
+        Rose (O.fault_count out.old) (O.fault_count out.new) }
+    ensures disk_fault_has_cause { IsDiskFault result →
+        Rose (D.fault_count disk_a.old) (D.fault_count disk_a.new) }
     ensures disk_fault_names_site_a { IsDiskFault result → result ≡ Status.DiskFault SiteId.A }
 
     // What each other status leaves.
-    ensures usage_touches_nothing { result ≡ Status.Usage → (script.new ≡ script.old) × (out.new ≡ out.old) × (disk_a.new ≡ disk_a.old) }
-    ensures not_empty_touches_nothing { IsNotEmpty result → (script.new ≡ script.old) × (out.new ≡ out.old) × (disk_a.new ≡ disk_a.old) }
-    ensures no_run_touches_no_output { are_run words.now ≡ true → IsBeforeRun result → (out.new ≡ out.old) × (disk_a.new ≡ disk_a.old) }
-    ensures a_fault_leaves_a_part { are_run words.now ≡ true → IsRunFault result →
-        HasStopped (I.left script.old) (I.left script.new) (O.held out.old) (O.held out.new) (D.seen disk_a.new) result }
-    ensures want_of_memory_leaves_a_part { are_run words.now ≡ true → result ≡ Status.NoMemory →
+    ensures usage_touches_nothing { result ≡ Status.Usage → (script.new ≡ script.old)
+        × (out.new ≡ out.old) × (disk_a.new ≡ disk_a.old) }
+    ensures not_empty_touches_nothing { IsNotEmpty result → (script.new ≡ script.old)
+        × (out.new ≡ out.old) × (disk_a.new ≡ disk_a.old) }
+    ensures no_run_touches_no_output { are_run words.now ≡ true → IsBeforeRun result →
+        (out.new ≡ out.old) × (disk_a.new ≡ disk_a.old) }
+    ensures a_fault_leaves_an_unfinished_log { are_run words.now ≡ true → IsRunFault result →
+        HasStopped (I.left script.old) (I.left script.new) (O.held out.old) (O.held out.new)
+        (D.seen disk_a.new) result }
+    ensures no_memory_leaves_an_unfinished_log { are_run words.now ≡ true →
+        result ≡ Status.NoMemory →
         IsUntouched (O.held out.old) (O.held out.new) (D.seen disk_a.old) (D.seen disk_a.new)
-        ⊎ HasStopped (I.left script.old) (I.left script.new) (O.held out.old) (O.held out.new) (D.seen disk_a.new) result }
-    ensures a_bad_log_is_told_up_to_it { (position : ℕ) (field : Field) → result ≡ Status.BadLog position field →
-        HasMetBadEvent most_log_bytes position field (I.left script.old) (I.left script.new) (O.held out.old) (O.held out.new) }
-    ensures a_reading_leaves_a_part { are_read words.now ≡ true → IsReadingFault result →
-        HasReadPart most_log_bytes (I.left script.old) (I.left script.new) (O.held out.old) (O.held out.new) }
+        ⊎ HasStopped (I.left script.old) (I.left script.new) (O.held out.old) (O.held out.new)
+        (D.seen disk_a.new) result }
+    ensures a_bad_log_is_printed_up_to_it { (position : ℕ) (field : Field) →
+        result ≡ Status.BadLog position field →
+        HasMetBadEvent most_log_bytes position field (I.left script.old) (I.left script.new)
+        (O.held out.old) (O.held out.new) }
+    ensures a_stopped_reading_leaves_a_prefix { are_read words.now ≡ true → IsReadingFault result →
+        HasReadPrefix most_log_bytes (I.left script.old) (I.left script.new) (O.held out.old)
+        (O.held out.new) }
 {
     if are_run_words(words) {
         if let Some(HeldFile { site, file, length }) = first_held(disk_a, disk_b) {
@@ -103,7 +138,7 @@ pub fn top<R: Threads + Sync, I: Source, O: Sink, D: LogDisk>(
         return run_script(alloc, script, out, disk_a);
     }
     if are_read_words(words) {
-        return tell_log(alloc, script, out);
+        return print_log(alloc, script, out);
     }
     Status::Usage
 }
@@ -117,8 +152,10 @@ fn run_script<I: Source, O: Sink, D: LogDisk>(
 ) -> Status
     requires a_is_empty { (file : ℕ) → D.seen disk_a.old file ≡ [] }
     ensures run_meets_headline { result ≡ Status.Done →
-        HasRun (I.left script.old) (I.left script.new) (O.held out.old) (O.held out.new) (D.seen disk_a.new) }
-    ensures a_legal_script_is_run { (bytes : List ℕ) (legal : Script) → I.left script.old ≡ Some bytes →
+        HasRun (I.left script.old) (I.left script.new) (O.held out.old) (O.held out.new)
+        (D.seen disk_a.new) }
+    ensures a_legal_script_is_run { (bytes : List ℕ) (legal : Script) →
+        I.left script.old ≡ Some bytes →
         script_of bytes ≡ Ok legal →
         (Rose (I.fault_count script.old) (I.fault_count script.new) → ⊥) →
         (Rose (O.fault_count out.old) (O.fault_count out.new) → ⊥) →
@@ -127,21 +164,31 @@ fn run_script<I: Source, O: Sink, D: LogDisk>(
     ensures no_usage { result ≡ Status.Usage → ⊥ }
     ensures no_held_file { IsNotEmpty result → ⊥ }
     ensures no_bad_log { IsBadLog result → ⊥ }
-    ensures bad_script_names_the_first_bad_line { (line : ℕ) (kind : ScriptKind) → result ≡ Status.BadScript line kind →
-        IfSome (I.left script.old) (λ bytes. script_of bytes ≡ Err (record { line = line; kind = kind })) }
-    ensures a_bad_script_is_refused { (bytes : List ℕ) (bad : BadLine) → I.left script.old ≡ Some bytes →
+    ensures bad_script_names_the_first_bad_line { (line : ℕ) (kind : ScriptKind) →
+        result ≡ Status.BadScript line kind →
+        IfSome (I.left script.old) (λ bytes. script_of bytes
+        ≡ Err (record { line = line; kind = kind })) }
+    ensures a_bad_script_is_refused { (bytes : List ℕ) (bad : BadLine) →
+        I.left script.old ≡ Some bytes →
         script_of bytes ≡ Err bad →
-        (result ≡ Status.BadScript bad.line bad.kind) ⊎ (result ≡ Status.ReadFault) ⊎ (result ≡ Status.NoMemory) }
-    ensures read_fault_has_cause { result ≡ Status.ReadFault → Rose (I.fault_count script.old) (I.fault_count script.new) }
-    ensures write_fault_has_cause { result ≡ Status.WriteFault → Rose (O.fault_count out.old) (O.fault_count out.new) }
-    ensures disk_fault_has_cause { IsDiskFault result → Rose (D.fault_count disk_a.old) (D.fault_count disk_a.new) }
+        (result ≡ Status.BadScript bad.line bad.kind) ⊎ (result ≡ Status.ReadFault)
+        ⊎ (result ≡ Status.NoMemory) }
+    ensures read_fault_has_cause { result ≡ Status.ReadFault →
+        Rose (I.fault_count script.old) (I.fault_count script.new) }
+    ensures write_fault_has_cause { result ≡ Status.WriteFault →
+        Rose (O.fault_count out.old) (O.fault_count out.new) }
+    ensures disk_fault_has_cause { IsDiskFault result →
+        Rose (D.fault_count disk_a.old) (D.fault_count disk_a.new) }
     ensures disk_fault_names_site_a { IsDiskFault result → result ≡ Status.DiskFault SiteId.A }
-    ensures no_run_touches_no_output { IsBeforeRun result → (out.new ≡ out.old) × (disk_a.new ≡ disk_a.old) }
-    ensures a_fault_leaves_a_part { IsRunFault result →
-        HasStopped (I.left script.old) (I.left script.new) (O.held out.old) (O.held out.new) (D.seen disk_a.new) result }
-    ensures want_of_memory_leaves_a_part { result ≡ Status.NoMemory →
+    ensures no_run_touches_no_output { IsBeforeRun result → (out.new ≡ out.old)
+        × (disk_a.new ≡ disk_a.old) }
+    ensures a_fault_leaves_an_unfinished_log { IsRunFault result →
+        HasStopped (I.left script.old) (I.left script.new) (O.held out.old) (O.held out.new)
+        (D.seen disk_a.new) result }
+    ensures no_memory_leaves_an_unfinished_log { result ≡ Status.NoMemory →
         IsUntouched (O.held out.old) (O.held out.new) (D.seen disk_a.old) (D.seen disk_a.new)
-        ⊎ HasStopped (I.left script.old) (I.left script.new) (O.held out.old) (O.held out.new) (D.seen disk_a.new) result }
+        ⊎ HasStopped (I.left script.old) (I.left script.new) (O.held out.old) (O.held out.new)
+        (D.seen disk_a.new) result }
 {
     let bytes = match read_all(alloc, script, MOST_SCRIPT_BYTES) {
         Ok(bytes) => bytes,
@@ -172,25 +219,35 @@ fn run_script<I: Source, O: Sink, D: LogDisk>(
 }
 
 // The word `read`.
-fn tell_log<I: Source, O: Sink>(alloc: Global, source: &mut I, out: &mut O) -> Status
+fn print_log<I: Source, O: Sink>(alloc: Global, source: &mut I, out: &mut O) -> Status
     ensures reading_meets_its_text { result ≡ Status.Done →
-        HasReadLog most_log_bytes (I.left source.old) (I.left source.new) (O.held out.old) (O.held out.new) }
-    ensures a_sound_log_is_read { (bytes : List ℕ) → I.left source.old ≡ Some bytes → bad_event_of bytes ≡ None →
+        HasReadLog most_log_bytes (I.left source.old) (I.left source.new) (O.held out.old)
+        (O.held out.new) }
+    ensures a_sound_log_is_read { (bytes : List ℕ) → I.left source.old ≡ Some bytes →
+        bad_event_of bytes ≡ None →
         (Rose (I.fault_count source.old) (I.fault_count source.new) → ⊥) →
         (Rose (O.fault_count out.old) (O.fault_count out.new) → ⊥) →
         (result ≡ Status.Done) ⊎ (result ≡ Status.NoMemory) }
-    ensures bad_log_names_the_first_bad_event { (position : ℕ) (field : Field) → result ≡ Status.BadLog position field →
+    ensures bad_log_names_the_first_bad_event { (position : ℕ) (field : Field) →
+        result ≡ Status.BadLog position field →
         IfSome (I.left source.old) (λ bytes. bad_event_of bytes ≡ Some (position, field)) }
-    ensures a_bad_log_is_refused { (bytes : List ℕ) (position : ℕ) (field : Field) → I.left source.old ≡ Some bytes →
+    ensures a_bad_log_is_refused { (bytes : List ℕ) (position : ℕ) (field : Field) →
+        I.left source.old ≡ Some bytes →
         bad_event_of bytes ≡ Some (position, field) →
-        (result ≡ Status.BadLog position field) ⊎ (result ≡ Status.ReadFault) ⊎ (result ≡ Status.WriteFault) ⊎ (result ≡ Status.NoMemory) }
+        (result ≡ Status.BadLog position field) ⊎ (result ≡ Status.ReadFault)
+        ⊎ (result ≡ Status.WriteFault) ⊎ (result ≡ Status.NoMemory) }
     ensures ends_so { IsReadingEnd result }
-    ensures read_fault_has_cause { result ≡ Status.ReadFault → Rose (I.fault_count source.old) (I.fault_count source.new) }
-    ensures write_fault_has_cause { result ≡ Status.WriteFault → Rose (O.fault_count out.old) (O.fault_count out.new) }
-    ensures a_bad_log_is_told_up_to_it { (position : ℕ) (field : Field) → result ≡ Status.BadLog position field →
-        HasMetBadEvent most_log_bytes position field (I.left source.old) (I.left source.new) (O.held out.old) (O.held out.new) }
-    ensures a_reading_leaves_a_part { IsReadingFault result →
-        HasReadPart most_log_bytes (I.left source.old) (I.left source.new) (O.held out.old) (O.held out.new) }
+    ensures read_fault_has_cause { result ≡ Status.ReadFault →
+        Rose (I.fault_count source.old) (I.fault_count source.new) }
+    ensures write_fault_has_cause { result ≡ Status.WriteFault →
+        Rose (O.fault_count out.old) (O.fault_count out.new) }
+    ensures a_bad_log_is_printed_up_to_it { (position : ℕ) (field : Field) →
+        result ≡ Status.BadLog position field →
+        HasMetBadEvent most_log_bytes position field (I.left source.old) (I.left source.new)
+        (O.held out.old) (O.held out.new) }
+    ensures a_stopped_reading_leaves_a_prefix { IsReadingFault result →
+        HasReadPrefix most_log_bytes (I.left source.old) (I.left source.new) (O.held out.old)
+        (O.held out.new) }
 {
     match read_log(alloc, source, out) {
         Ok(()) => Status::Done,

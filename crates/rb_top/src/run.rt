@@ -8,7 +8,7 @@ ghost use Rattle.rb_text_defs.specs.Report.{log_lines, table_lines, text_of_line
 ghost use Rattle.rb_text_defs.specs.Legal.{IsLegal};
 ghost use Rattle.rb_play_defs.specs.Step.{Progress, written_bodies};
 ghost use Rattle.rb_play_defs.specs.Play.{tables_left, log_of, log_rows, report_of, HoldsLogOf};
-ghost use Rattle.rb_play_defs.specs.Part.{HoldsPart};
+ghost use Rattle.rb_play_defs.specs.UnfinishedLog.{HoldsUnfinishedLog};
 ghost use Rattle.rb_disk.specs.Fault.{HasDiskCause};
 ghost use Rattle.rb_site.specs.Site.{IsSite, limit_of};
 
@@ -21,7 +21,7 @@ use rb_site::Site;
 use rb_store::Tables;
 use std::alloc::Global;
 
-/// Runs a script and answers its report.
+/// Runs a script and returns its report.
 pub(crate) fn run<D: LogDisk>(
     alloc: Global,
     script: Script,
@@ -29,8 +29,10 @@ pub(crate) fn run<D: LogDisk>(
 ) -> Result<Bytes, DiskLogFault>
     requires legal { IsLegal script }
     requires empty { (file : ℕ) → D.seen disk.old file ≡ [] }
-    ensures ok { IfOk result (λ report. (report ≡ report_of script) × HoldsLogOf script (D.seen disk.new)) }
-    ensures err { OnErr result (HoldsPart script.setup.a.limit 0 (log_of script) (D.seen disk.new)) }
+    ensures ok { IfOk result (λ report. (report ≡ report_of script)
+        × HoldsLogOf script (D.seen disk.new)) }
+    ensures err { OnErr result (HoldsUnfinishedLog script.setup.a.limit 0 (log_of script)
+        (D.seen disk.new)) }
     ensures cause { HasDiskCause (D.fault_count disk.old) (D.fault_count disk.new) result }
 {
     let Script { setup, events } = script;
@@ -42,10 +44,13 @@ pub(crate) fn run<D: LogDisk>(
     Ok(Bytes::from_vec(text))
 }
 
-// Appends the lines of a site's log: the counts of its files and epochs, and a line for each row of its index.
+// Appends the lines of a site's log: the counts of its files and epochs, and a line for each row of
+// its index.
 fn put_log(alloc: Global, text: &mut Vec<u8>, site: &Site) -> Result<(), NoMemory>
-    ensures { OnOk result ((shape : Shape) (seen : ℕ → List ℕ) (run : Progress) → IsSite shape site.now seen run →
-        text.new.items ≡ text.old.items ++ text_of_lines (log_lines A (log_rows (limit_of site.now) (written_bodies shape run)))) }
+    ensures { OnOk result ((shape : Shape) (seen : ℕ → List ℕ) (run : Progress) →
+        IsSite shape site.now seen run →
+        text.new.items ≡ text.old.items
+        ++ text_of_lines (log_lines A (log_rows (limit_of site.now) (written_bodies shape run)))) }
 {
     let rows = site.index().rows();
     let lines = print_log(alloc, SiteId::A, site.last_file(), rows)?;
@@ -61,8 +66,11 @@ fn put_tables(
     tables: &Tables,
 ) -> Result<(), NoMemory>
     requires few { length schemas.now < 2 ^ 16 }
-    ensures { OnOk result ((journal : Journal) → ((table key : ℕ) → rows_in tables.now table key ≡ row_at A table key journal) →
-        text.new.items ≡ text.old.items ++ flat_map (λ table. text_of_lines (table_lines A table)) (tables_left schemas.now journal)) }
+    ensures { OnOk result ((journal : Journal) →
+        ((table key : ℕ) → rows_in tables.now table key ≡ row_at A table key journal) →
+        text.new.items ≡ text.old.items
+        ++ flat_map (λ table. text_of_lines (table_lines A table))
+        (tables_left schemas.now journal)) }
 {
     for (place, schema) in schemas.iter().enumerate() {
         let rows = tables.dump(place as u16 + 1)?;

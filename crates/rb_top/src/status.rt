@@ -4,34 +4,39 @@ use rb_script::ScriptKind;
 /// How a call of the program ended.
 #[derive(Clone, Copy, Debug, PartialEq, Eq)]
 pub enum Status {
-    /// The input was read to its end, and the whole text was written: a script's report, behind its run, or a log's text.
+    /// The input was read to its end, and the whole text was written: the report of a script or the
+    /// text of a log.
     Done,
     /// The words are outside the grammar. Nothing was read, written or changed.
     Usage,
-    /// A run begins on empty devices alone. This file has so many bytes: the lowest one of this site's device that is not empty, site
-    /// A's device first. Nothing was read, written or changed.
+    /// A run needs empty devices, and this file has `length` bytes. It is the lowest file that is
+    /// not empty, site A's device first. Nothing was read, written or changed.
     NotEmpty {
         site: SiteId,
         file: u32,
         length: u64,
     },
-    /// The script is not legal: its first bad line, or 0 for the whole, and what is wrong there. Nothing was written.
+    /// The script is not legal: its first bad line, or 0 for the whole script, and why it is
+    /// refused. Nothing was written.
     BadScript {
         line: u32,
         kind: ScriptKind,
     },
-    /// The log has an event outside the grammar: the position of the first one, in bytes from the log's start, and the
-    /// field that is wrong; `Limit` says that the log goes on at this position, behind the most bytes that are read.
-    /// The text of what stands before it was written.
+    /// The log has a bad event: the position of the first one, in bytes from the log's start, and
+    /// its first wrong field. `Limit` says that the log continues at this position, past the most
+    /// bytes that are read. The text of everything before it was written.
     BadLog {
         position: u64,
         field: Field,
     },
-    /// The source failed. Of a script nothing was written, of a log a front of the text of what was read before.
+    /// The source failed. `run` has written nothing; `read` has written a prefix of the text of
+    /// what was read.
     ReadFault,
-    /// The sink failed. A front of the text is written; of a script the log is written, and a front of the report.
+    /// The sink failed. A prefix of the text was written. The log of a script is whole on its
+    /// device.
     WriteFault,
-    /// The log device of this site failed. It has an image of the log of the first so many epochs; nothing was printed.
+    /// This site's log device failed. It has an image of the log of some of the script's first
+    /// epochs, which recovery opens. Nothing was printed.
     DiskFault {
         site: SiteId,
     },

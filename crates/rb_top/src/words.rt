@@ -3,7 +3,8 @@ ghost use Rattle.rb_top.specs.Program.{are_run, are_read};
 
 use rb_base::Bytes;
 
-/// The words after the program's name are the one word `run`, and so not the word `read`.
+/// Returns whether the words after the program's name are the one word `run`. Then they are not the
+/// one word `read`.
 pub fn are_run_words(words: &[Bytes]) -> bool
     ensures value { result ≡ are_run words.now }
     ensures other { are_run words.now ≡ true → are_read words.now ≡ false }
@@ -14,7 +15,7 @@ pub fn are_run_words(words: &[Bytes]) -> bool
     }
 }
 
-/// They are the one word `read`.
+/// Returns whether the words after the program's name are the one word `read`.
 pub fn are_read_words(words: &[Bytes]) -> bool
     ensures { result ≡ are_read words.now }
 {

@@ -9,12 +9,13 @@ use rb_codec::{Fields, all_set, check};
 /// The first byte of extra data that carries a transaction's number.
 const TRANSID: u8 = 0x52;
 
-/// What stands before the rows of a table's event of this kind: table id, flags, extra data, and which columns there
-/// are. It gives the transaction's number.
+/// Reads the part of a rows event before its rows: table id, flags, extra data, number of columns,
+/// present bitmaps. Returns the transaction's number.
 #[tactic(auto, unfolding(rb_read_defs::specs::Rows::rows_head))]
 pub(crate) fn read_head(fields: &mut Fields, kind: Kind, table: &Mapped) -> Result<u64, CodecFault>
     requires some { 1 ≤ length table.now.columns }
-    ensures gives { Gives (λ transid. transid) result fields.new.at (rows_head kind table.now fields.old.bytes.now fields.old.at) }
+    ensures gives { Gives (λ transid. transid) result fields.new.at
+        (rows_head kind table.now fields.old.bytes.now fields.old.at) }
     ensures bytes { fields.new.bytes ≡ fields.old.bytes }
 {
     let columns = table.columns.as_slice().len();
@@ -33,7 +34,7 @@ pub(crate) fn read_head(fields: &mut Fields, kind: Kind, table: &Mapped) -> Resu
     Ok(transid_in(extra))
 }
 
-/// The transaction's number in the extra data; 0 where it is of another form.
+/// Returns the transaction's number in the extra data, or 0 if the extra data has another form.
 fn transid_in(extra: &[u8]) -> u64
     ensures { result ≡ transid_in extra.now }
 {
@@ -43,14 +44,16 @@ fn transid_in(extra: &[u8]) -> u64
     LittleEndian::read_u64(&extra[1..])
 }
 
-/// The present bitmaps of so many columns: an update has one for each image.
+/// Reads the present bitmaps of this number of columns: one for each row image, so an update has
+/// two.
 fn read_presents<'a>(
     fields: &mut Fields<'a>,
     kind: Kind,
     columns: usize,
 ) -> Result<&'a [u8], CodecFault>
     requires some { 1 ≤ columns }
-    ensures gives { Gives (λ bitmap. bitmap.now) result fields.new.at (presents kind columns fields.old.bytes.now fields.old.at) }
+    ensures gives { Gives (λ bitmap. bitmap.now) result fields.new.at
+        (presents kind columns fields.old.bytes.now fields.old.at) }
     ensures bytes { fields.new.bytes ≡ fields.old.bytes }
 {
     match kind {
@@ -62,10 +65,11 @@ fn read_presents<'a>(
     }
 }
 
-/// The present bitmap of an image of so many columns: all are there.
+/// Reads the present bitmap of one row image, in which all columns must be present.
 fn read_present<'a>(fields: &mut Fields<'a>, columns: usize) -> Result<&'a [u8], CodecFault>
     requires some { 1 ≤ columns }
-    ensures gives { Gives (λ bitmap. bitmap.now) result fields.new.at (present columns fields.old.bytes.now fields.old.at) }
+    ensures gives { Gives (λ bitmap. bitmap.now) result fields.new.at
+        (present columns fields.old.bytes.now fields.old.at) }
     ensures bytes { fields.new.bytes ≡ fields.old.bytes }
 {
     let at = fields.at();

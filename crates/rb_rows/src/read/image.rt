@@ -9,7 +9,7 @@ use rb_base::{CodecFault, Column, Field, Kind, Row};
 use rb_codec::{Fields, all_clear, check};
 use std::alloc::Global;
 
-/// The next image of a row: a null bitmap, in which nothing is NULL, and the values.
+/// Reads the next row image: a null bitmap, in which no value is NULL, and the values.
 #[tactic(auto, unfolding(rb_read_defs::specs::Rows::image, rb_read_defs::specs::Reading::some_bytes))]
 pub(crate) fn read_image(
     alloc: Global,
@@ -18,7 +18,9 @@ pub(crate) fn read_image(
     key: Option<u64>,
 ) -> Result<Row, CodecFault>
     requires some { 1 ≤ length columns.now }
-    ensures gives { result ≢ Err CodecOutOfMemory → Gives (λ row. row) result fields.new.at (image columns.now key fields.old.bytes.now fields.old.at) }
+    ensures gives { result ≢ Err CodecOutOfMemory →
+        Gives (λ row. row) result fields.new.at
+        (image columns.now key fields.old.bytes.now fields.old.at) }
     ensures bytes { fields.new.bytes ≡ fields.old.bytes }
     ensures later { OnOk result (fields.old.at < fields.new.at) }
     ensures long { IfOk result (λ row. IsFirstLong columns.now row.values) }
@@ -30,7 +32,8 @@ pub(crate) fn read_image(
     Ok(Row { values })
 }
 
-/// The next images, of a change of this kind: the row before it and the row after it. Those of an update have one key.
+/// Reads the row images of the next change: its before image and its after image. Both images of an
+/// update must have the same key.
 pub(crate) fn read_images(
     alloc: Global,
     fields: &mut Fields,
@@ -38,7 +41,9 @@ pub(crate) fn read_images(
     columns: &[Column],
 ) -> Result<(Option<Row>, Option<Row>), CodecFault>
     requires some { 1 ≤ length columns.now }
-    ensures gives { result ≢ Err CodecOutOfMemory → Gives (λ both. both) result fields.new.at (images kind columns.now fields.old.bytes.now fields.old.at) }
+    ensures gives { result ≢ Err CodecOutOfMemory →
+        Gives (λ both. both) result fields.new.at
+        (images kind columns.now fields.old.bytes.now fields.old.at) }
     ensures bytes { fields.new.bytes ≡ fields.old.bytes }
     ensures later { OnOk result (fields.old.at < fields.new.at) }
 {

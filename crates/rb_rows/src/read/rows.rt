@@ -12,16 +12,26 @@ use rb_base::{Change, Changes, CodecFault, Items, Kind, Mapped, Row};
 use rb_codec::Fields;
 use std::alloc::Global;
 
-/// Reads the payload of a rows event of this kind, of a table, after the row-event chapter of the binlog format: its
-/// changes, by this server in the transaction that the extra data names, or in transaction 0 where it is of another
-/// form. An event without a row gives no changes. The flags may have any value, and so may the bits of a bitmap
-/// behind those of its columns.
+/// Reads the payload of a rows event of this kind for `table`, and returns its changes by this
+/// server.
 ///
-/// `Short` names the first field that does not end within the payload, by its place. `BadField` names one that is
-/// whole and wrong: `TableId` the id of another table; `Extra` a size below 2, which is its own; `Width` a number of
-/// columns other than the table's, or a byte that begins no number; `Present` where a column is not there; `Null`
-/// where a value is NULL; `Length` a text above its column's maximum; `Key` where the row after an update has another
-/// key than the row before. Places are in bytes from the payload's start. `NoMemory` where the changes find no room.
+/// The transaction's number is the one in the extra data, or 0 if the extra data has another form.
+/// An event without rows gives no changes. The flags and the unused bits of the bitmaps may have
+/// any value.
+///
+/// `Short` has the place of the first field that does not end within the payload. `BadField` has
+/// the place of the first field that is complete and wrong:
+///
+/// - `TableId`: the id of another table;
+/// - `Extra`: the length of the extra data, which counts itself, is below 2;
+/// - `Width`: the number of columns is not the table's, or its first byte begins no number;
+/// - `Present`: a column is absent;
+/// - `Null`: a value is NULL;
+/// - `Length`: a text is longer than its column's maximum;
+/// - `Key`: the after image of an update has another key than the before image.
+///
+/// Places are in bytes from the start of the payload. Returns `NoMemory` if the changes cannot be
+/// allocated.
 pub fn read_rows(
     alloc: Global,
     payload: &[u8],
@@ -30,7 +40,8 @@ pub fn read_rows(
     table: &Mapped,
 ) -> Result<Changes, CodecFault>
     requires some { 1 ≤ length table.now.columns }
-    ensures { result ≢ Err CodecOutOfMemory → result ≡ answer_of (changes kind server table.now payload.now 0) }
+    ensures { result ≢ Err CodecOutOfMemory →
+        result ≡ answer_of (changes kind server table.now payload.now 0) }
 {
     let mut fields = Fields::new(payload);
     let transid = read_head(&mut fields, kind, table)?;
@@ -45,7 +56,7 @@ pub fn read_rows(
     )
 }
 
-/// The changes that are left, up to the payload's end, which is this place.
+/// Reads the remaining changes up to `end`, which is the end of the payload.
 fn read_changes(
     alloc: Global,
     fields: &mut Fields,
@@ -57,7 +68,9 @@ fn read_changes(
 ) -> Result<Changes, CodecFault>
     requires some { 1 ≤ length table.now.columns }
     requires end { end ≡ length fields.old.bytes.now }
-    ensures gives { result ≢ Err CodecOutOfMemory → Gives (λ changes. changes) result fields.new.at (many (change_in kind server table.now transid) fields.old.bytes.now fields.old.at) }
+    ensures gives { result ≢ Err CodecOutOfMemory →
+        Gives (λ changes. changes) result fields.new.at
+        (many (change_in kind server table.now transid) fields.old.bytes.now fields.old.at) }
 {
     let mut changes = Items::new(alloc);
     while fields.at() < end {
@@ -66,7 +79,7 @@ fn read_changes(
     Ok(changes)
 }
 
-/// The next change.
+/// Reads the next change.
 #[tactic(auto, unfolding(crate::specs::Rows::change_in))]
 fn read_change(
     alloc: Global,
@@ -77,7 +90,9 @@ fn read_change(
     transid: u64,
 ) -> Result<Change, CodecFault>
     requires some { 1 ≤ length table.now.columns }
-    ensures gives { result ≢ Err CodecOutOfMemory → Gives (λ change. change) result fields.new.at (change_in kind server table.now transid fields.old.bytes.now fields.old.at) }
+    ensures gives { result ≢ Err CodecOutOfMemory →
+        Gives (λ change. change) result fields.new.at
+        (change_in kind server table.now transid fields.old.bytes.now fields.old.at) }
     ensures bytes { fields.new.bytes ≡ fields.old.bytes }
     ensures later { OnOk result (fields.old.at < fields.new.at) }
 {
@@ -94,7 +109,7 @@ fn read_change(
     })
 }
 
-/// The key of a change with these images.
+/// Returns the key in these row images of a change.
 fn key_of(before: &Option<Row>, after: &Option<Row>) -> u64
     ensures { result ≡ key_of (before.now, after.now) }
 {

@@ -14,22 +14,23 @@ use rb_codec::Fields;
 use rb_read_defs::{StatusRow, StatusRows};
 use std::alloc::Global;
 
-/// Reads the payload of a write to the apply-status table, after the row-event chapter of the binlog format: its rows.
-/// Only the first two columns are looked at, the server and the epoch; an event without a row gives no rows.
+/// Reads the payload of a write to the apply-status table, and returns its rows. Only the first two
+/// columns, the server and the epoch, are kept. An event without rows gives no rows.
 ///
-/// `Short` names the first field that does not end within the payload, by its place. `BadField` names one that is
-/// whole and wrong, as `read_rows` does. Places are in bytes from the payload's start. `NoMemory` where the rows find
-/// no room.
+/// `Short` has the place of the first field that does not end within the payload, and `BadField`
+/// that of the first field that is complete and wrong, as for `read_rows`. Places are in bytes from
+/// the start of the payload. Returns `NoMemory` if the rows cannot be allocated.
 pub fn read_status(alloc: Global, payload: &[u8], table: &Mapped) -> Result<StatusRows, CodecFault>
     requires server { get_or table.now.columns 0 Num ≡ Long }
-    ensures { result ≢ Err CodecOutOfMemory → result ≡ answer_of (statuses table.now payload.now 0) }
+    ensures { result ≢ Err CodecOutOfMemory →
+        result ≡ answer_of (statuses table.now payload.now 0) }
 {
     let mut fields = Fields::new(payload);
     read_head(&mut fields, Kind::Insert, table)?;
     read_status_rows(alloc, &mut fields, payload.len(), table)
 }
 
-/// The rows that are left, up to the payload's end, which is this place.
+/// Reads the remaining rows up to `end`, which is the end of the payload.
 fn read_status_rows(
     alloc: Global,
     fields: &mut Fields,
@@ -38,7 +39,9 @@ fn read_status_rows(
 ) -> Result<StatusRows, CodecFault>
     requires server { get_or table.now.columns 0 Num ≡ Long }
     requires end { end ≡ length fields.old.bytes.now }
-    ensures gives { result ≢ Err CodecOutOfMemory → Gives (λ rows. rows) result fields.new.at (many (status table.now) fields.old.bytes.now fields.old.at) }
+    ensures gives { result ≢ Err CodecOutOfMemory →
+        Gives (λ rows. rows) result fields.new.at
+        (many (status table.now) fields.old.bytes.now fields.old.at) }
 {
     let mut rows = Items::new(alloc);
     while fields.at() < end {
@@ -47,7 +50,7 @@ fn read_status_rows(
     Ok(rows)
 }
 
-/// The next row.
+/// Reads the next row.
 #[tactic(auto, unfolding(crate::specs::Rows::status))]
 fn read_status_row(
     alloc: Global,
@@ -55,7 +58,9 @@ fn read_status_row(
     table: &Mapped,
 ) -> Result<StatusRow, CodecFault>
     requires server { get_or table.now.columns 0 Num ≡ Long }
-    ensures gives { result ≢ Err CodecOutOfMemory → Gives (λ row. row) result fields.new.at (status table.now fields.old.bytes.now fields.old.at) }
+    ensures gives { result ≢ Err CodecOutOfMemory →
+        Gives (λ row. row) result fields.new.at
+        (status table.now fields.old.bytes.now fields.old.at) }
     ensures bytes { fields.new.bytes ≡ fields.old.bytes }
     ensures later { OnOk result (fields.old.at < fields.new.at) }
 {

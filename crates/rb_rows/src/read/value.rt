@@ -12,14 +12,17 @@ use rb_base::{Bytes, CodecFault, Column, Field, Items, NoMemory, Row, Value, Val
 use rb_codec::{Fields, check};
 use std::alloc::Global;
 
-/// The next values, one of each column. The first one is this key, where one is given; else `BadField` with `Key`.
+/// Reads the next values, one for each column. If a key is given, the first value must be this key;
+/// otherwise it returns `BadField` with `Key`.
 pub(crate) fn read_values(
     alloc: Global,
     fields: &mut Fields,
     columns: &[Column],
     key: Option<u64>,
 ) -> Result<Values, CodecFault>
-    ensures gives { result ≢ Err CodecOutOfMemory → Gives (λ values. values) result fields.new.at (values_in columns.now key fields.old.bytes.now fields.old.at) }
+    ensures gives { result ≢ Err CodecOutOfMemory →
+        Gives (λ values. values) result fields.new.at
+        (values_in columns.now key fields.old.bytes.now fields.old.at) }
     ensures bytes { fields.new.bytes ≡ fields.old.bytes }
     ensures later { OnOk result (fields.old.at ≤ fields.new.at) }
     ensures long { IfOk result (λ values. IsFirstLong columns.now values) }
@@ -33,14 +36,16 @@ pub(crate) fn read_values(
     Ok(values)
 }
 
-/// The next value, of this column, which is this key where one is given.
+/// Reads the next value, of this column. If a key is given, the value must be this key.
 fn read_keyed(
     alloc: Global,
     fields: &mut Fields,
     column: Column,
     key: Option<u64>,
 ) -> Result<Value, CodecFault>
-    ensures gives { result ≢ Err CodecOutOfMemory → Gives (λ value. value) result fields.new.at (that Key (is_key key) (value_in column) fields.old.bytes.now fields.old.at) }
+    ensures gives { result ≢ Err CodecOutOfMemory →
+        Gives (λ value. value) result fields.new.at
+        (that Key (is_key key) (value_in column) fields.old.bytes.now fields.old.at) }
     ensures bytes { fields.new.bytes ≡ fields.old.bytes }
     ensures later { OnOk result (fields.old.at ≤ fields.new.at) }
     ensures long { IfOk result (λ value. IsLong column value) }
@@ -51,7 +56,7 @@ fn read_keyed(
     Ok(value)
 }
 
-/// Whether a value is this number, where one is given.
+/// Returns whether a value is this key, and true if no key is given.
 fn is_key(key: Option<u64>, value: &Value) -> bool
     ensures { result ≡ is_key key value.now }
 {
@@ -62,10 +67,12 @@ fn is_key(key: Option<u64>, value: &Value) -> bool
     }
 }
 
-/// The next value, of this column.
+/// Reads the next value, of this column.
 #[tactic(auto, unfolding(rb_read_defs::specs::Reading::number))]
 fn read_value(alloc: Global, fields: &mut Fields, column: Column) -> Result<Value, CodecFault>
-    ensures gives { result ≢ Err CodecOutOfMemory → Gives (λ value. value) result fields.new.at (value_in column fields.old.bytes.now fields.old.at) }
+    ensures gives { result ≢ Err CodecOutOfMemory →
+        Gives (λ value. value) result fields.new.at
+        (value_in column fields.old.bytes.now fields.old.at) }
     ensures bytes { fields.new.bytes ≡ fields.old.bytes }
     ensures later { OnOk result (fields.old.at ≤ fields.new.at) }
     ensures long { IfOk result (λ value. IsLong column value) }
@@ -77,10 +84,13 @@ fn read_value(alloc: Global, fields: &mut Fields, column: Column) -> Result<Valu
     }
 }
 
-/// The next text, of a column of texts of at most so many bytes. Its length stands before it.
+/// Reads the next text, of a column whose maximum length is `most`. The text comes after its
+/// length.
 #[tactic(auto, unfolding(rb_read_defs::specs::Reading::number, rb_read_defs::specs::Reading::some_bytes))]
 fn read_text(alloc: Global, fields: &mut Fields, most: u16) -> Result<Bytes, CodecFault>
-    ensures gives { result ≢ Err CodecOutOfMemory → Gives (λ text. Text text) result fields.new.at (value_in (TextColumn most) fields.old.bytes.now fields.old.at) }
+    ensures gives { result ≢ Err CodecOutOfMemory →
+        Gives (λ text. Text text) result fields.new.at
+        (value_in (TextColumn most) fields.old.bytes.now fields.old.at) }
     ensures bytes { fields.new.bytes ≡ fields.old.bytes }
     ensures later { OnOk result (fields.old.at ≤ fields.new.at) }
 {
@@ -91,14 +101,14 @@ fn read_text(alloc: Global, fields: &mut Fields, most: u16) -> Result<Bytes, Cod
     Ok(bytes_of(alloc, text)?)
 }
 
-/// The list of these bytes.
+/// Returns the list of these bytes.
 fn bytes_of(alloc: Global, bytes: &[u8]) -> Result<Bytes, NoMemory>
     ensures { IfOk result (λ list. list ≡ bytes.now) }
 {
     Ok(Items::from_vec(Vec::from_slice(alloc, bytes)?))
 }
 
-/// The number that a row has in a column, and 0 where it has none.
+/// Returns the number that a row has in this column, or 0 if it has none there.
 pub(crate) fn number_in(row: &Row, column: usize) -> u64
     ensures { result ≡ number_in row.now column }
 {

@@ -6,12 +6,14 @@ ghost use Rattle.rb_rows.specs.Written.{flag_of};
 use byteorder::{ByteOrder, LittleEndian};
 use rb_base::{Kind, NoMemory};
 
-/// What begins the extra data of a rows event that carries a transaction's number.
+/// The first byte of extra data that carries a transaction's number.
 const TRANSID: u8 = 0x52;
 
-/// The table's id, the flags, and the extra data, which is the transaction's number, behind its length.
+/// Returns the table's id, the flags, and the extra data after its length. The extra data is the
+/// transaction's number.
 pub(crate) fn rows_head(table: u16, last: bool, transid: u64) -> [u8; 19]
-    ensures { result ≡ little_bytes 6 table ++ (little_bytes 2 (flag_of last) ++ (little_bytes 2 11 ++ transid_extra transid)) }
+    ensures { result ≡ little_bytes 6 table
+        ++ (little_bytes 2 (flag_of last) ++ (little_bytes 2 11 ++ transid_extra transid)) }
 {
     let mut bytes = [0u8; 19];
     LittleEndian::write_u48(&mut bytes, table as u64);
@@ -22,7 +24,7 @@ pub(crate) fn rows_head(table: u16, last: bool, transid: u64) -> [u8; 19]
     bytes
 }
 
-/// Appends the bitmaps of the columns that are present: one for each image of the kind.
+/// Appends the present bitmaps: one for each row image of the kind.
 pub(crate) fn write_present(out: &mut Vec<u8>, kind: Kind, columns: usize) -> Result<(), NoMemory>
     requires { columns ≤ 64 }
     ensures { OnOk result (out.new.items ≡ out.old.items ++ present_bitmaps kind columns) }
@@ -37,7 +39,7 @@ pub(crate) fn write_present(out: &mut Vec<u8>, kind: Kind, columns: usize) -> Re
     Ok(())
 }
 
-/// Appends a bitmap in which every column is present.
+/// Appends a present bitmap in which every column is present.
 #[tactic(auto, using(crate::proofs::Images::bitmap_cut))]
 fn write_bitmap(out: &mut Vec<u8>, columns: usize) -> Result<(), NoMemory>
     requires { columns ≤ 64 }
@@ -49,7 +51,7 @@ fn write_bitmap(out: &mut Vec<u8>, columns: usize) -> Result<(), NoMemory>
     Ok(())
 }
 
-/// A number whose lowest `columns` bits are 1.
+/// Returns the number whose lowest `columns` bits are 1.
 fn all_present(columns: usize) -> u64
     requires { columns ≤ 64 }
     ensures { result ≡ 2 ^ columns - 1 }

@@ -5,7 +5,8 @@ ghost use Rattle.rb_log_defs.specs.Fits.{Fits, FitsColumn, FitsColumns, IsImage}
 use byteorder::{ByteOrder, LittleEndian};
 use rb_base::{Change, Column, Kind, NoMemory, Row, Value};
 
-/// Appends the row images of a change: the row after an insert, before a remove, and before and after an update.
+/// Appends the row images of a change: the after image of an insert, the before image of a remove,
+/// and both of an update.
 pub(crate) fn write_images(
     out: &mut Vec<u8>,
     columns: &[Column],
@@ -13,7 +14,8 @@ pub(crate) fn write_images(
 ) -> Result<(), NoMemory>
     requires change { Fits columns.now change.now }
     requires few { length columns.now ≤ 64 }
-    ensures { OnOk result (out.new.items ≡ out.old.items ++ images_of change.now.kind columns.now change.now.before change.now.after) }
+    ensures { OnOk result (out.new.items ≡ out.old.items
+        ++ images_of change.now.kind columns.now change.now.before change.now.after) }
 {
     match change.kind {
         Kind::Insert => write_image_of(out, columns, &change.after)?,
@@ -26,7 +28,7 @@ pub(crate) fn write_images(
     Ok(())
 }
 
-/// Appends the image of a row that may be absent: nothing where it is.
+/// Appends the row image of a row, or nothing if there is no row.
 fn write_image_of(out: &mut Vec<u8>, columns: &[Column], row: &Option<Row>) -> Result<(), NoMemory>
     requires image { IsImage columns.now row.now }
     requires few { length columns.now ≤ 64 }
@@ -39,7 +41,7 @@ fn write_image_of(out: &mut Vec<u8>, columns: &[Column], row: &Option<Row>) -> R
     Ok(())
 }
 
-/// Appends the image of a row: a bitmap of the values that are NULL, none, and the values.
+/// Appends a row image: a bitmap of the NULL values, which is all zero, and then the values.
 #[tactic(auto, unfolding(rb_log_defs::specs::Rows::row_image), using(crate::proofs::Images::zeros_cut))]
 fn write_image(out: &mut Vec<u8>, columns: &[Column], row: &Row) -> Result<(), NoMemory>
     requires fits { FitsColumns columns.now row.now.values }
@@ -61,7 +63,7 @@ fn write_values(out: &mut Vec<u8>, columns: &[Column], values: &[Value]) -> Resu
     Ok(())
 }
 
-/// Appends a value as a column of its type holds it.
+/// Appends a value of a column.
 fn write_value(out: &mut Vec<u8>, column: Column, value: &Value) -> Result<(), NoMemory>
     requires { FitsColumn column value.now }
     ensures { OnOk result (out.new.items ≡ out.old.items ++ value_bytes column value.now) }
@@ -83,7 +85,8 @@ fn write_value(out: &mut Vec<u8>, column: Column, value: &Value) -> Result<(), N
     Ok(())
 }
 
-/// Appends a text behind its length, which takes 1 byte where the column's maximum is at most 255, and else 2.
+/// Appends a text after its length, which takes 1 byte if the column's maximum is at most 255 and
+/// otherwise 2.
 #[tactic(auto, unfolding(rb_log_defs::specs::Rows::text_bytes))]
 fn write_text(out: &mut Vec<u8>, most: u16, text: &[u8]) -> Result<(), NoMemory>
     requires { length text.now ≤ most }

@@ -8,9 +8,9 @@ use crate::write::size::size_of_rows;
 use rb_base::{Change, Mapped, NoMemory, write_length};
 use std::alloc::Global;
 
-/// Appends the payload of the rows event of these changes of a table, for now of exactly one, after the row-event
-/// chapter of the binlog format. `last` sets the flag that ends the statement. Without memory the output stays as it
-/// was.
+/// Appends the payload of the rows event of these changes of a table. For now `changes` is exactly
+/// one change. `last` sets the flag that ends the statement. If memory allocation fails, `out` is
+/// unchanged.
 pub fn write_rows(
     alloc: Global,
     out: &mut Vec<u8>,
@@ -21,7 +21,8 @@ pub fn write_rows(
     requires one { length changes.now ≡ 1 }
     requires few { length table.now.columns ≤ 64 }
     requires fits { All (λ change. Fits table.now.columns change) changes.now }
-    ensures ok { OnOk result (out.new.items ≡ out.old.items ++ rows_written table.now changes.now last) }
+    ensures ok { OnOk result (out.new.items ≡ out.old.items
+        ++ rows_written table.now changes.now last) }
     ensures err { OnErr result (out.new.items ≡ out.old.items) }
 {
     let payload = rows_payload(alloc, table, changes, last)?;
@@ -29,7 +30,7 @@ pub fn write_rows(
     Ok(())
 }
 
-/// That payload. It is made apart, so that the output has all of it or nothing.
+/// Returns that payload. It is built separately, so that `out` gets all of it or nothing.
 #[tactic(auto, unfolding(rb_log_defs::specs::Rows::rows_payload), using(crate::proofs::Images::one_change))]
 fn rows_payload(
     alloc: Global,

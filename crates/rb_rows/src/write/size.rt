@@ -5,11 +5,11 @@ ghost use Rattle.rb_rows.specs.Written.{rows_written, status_written};
 
 use rb_base::{Change, Column, EpochBody, Kind, Mapped, Row, Value};
 
-/// The bytes of a payload before its bitmaps: the table's id, flags, extra data behind its length, and the number of
-/// columns.
+/// The length in bytes of a payload before its bitmaps: the table's id, the flags, the length of
+/// the extra data, the extra data, and the number of columns.
 const HEAD_SIZE: u64 = 20;
 
-/// How many bytes the payload has that `write_rows` appends, at most 8388788.
+/// Returns the length in bytes of the payload that `write_rows` appends, which is at most 8388788.
 #[tactic(auto, using(crate::proofs::Images::one_length))]
 pub fn size_of_rows(table: &Mapped, changes: &[Change]) -> u64
     requires one { length changes.now ≡ 1 }
@@ -23,7 +23,7 @@ pub fn size_of_rows(table: &Mapped, changes: &[Change]) -> u64
     HEAD_SIZE + presents_size(change.kind, columns.len()) + images_size(columns, change)
 }
 
-/// The size of the bitmaps of the columns that are present.
+/// Returns the length in bytes of the present bitmaps.
 #[tactic(auto, using(crate::proofs::Images::bitmap_length, crate::proofs::Images::two_bitmaps))]
 fn presents_size(kind: Kind, columns: usize) -> u64
     requires { columns ≤ 64 }
@@ -37,7 +37,8 @@ fn presents_size(kind: Kind, columns: usize) -> u64
     }
 }
 
-/// How many bytes the payload has that `write_status` appends: 42, or 72 with the primary's row.
+/// Returns the length in bytes of the payload that `write_status` appends: 42, or 72 with the
+/// primary's row.
 #[tactic(auto, unfolding(rb_log_defs::specs::Rows::rows_payload, rb_base::specs::Length::length_bytes, rb_log_defs::specs::Rows::row_image, rb_log_defs::specs::Rows::text_bytes))]
 pub fn size_of_status(body: &EpochBody) -> u64
     ensures size { (last : Bool) → result ≡ length (status_written body.now last) }
@@ -49,11 +50,12 @@ pub fn size_of_status(body: &EpochBody) -> u64
     }
 }
 
-/// The size of the row images of a change.
+/// Returns the length in bytes of the row images of a change.
 fn images_size(columns: &[Column], change: &Change) -> u64
     requires change { Fits columns.now change.now }
     requires few { length columns.now ≤ 64 }
-    ensures size { result ≡ length (images_of change.now.kind columns.now change.now.before change.now.after) }
+    ensures size { result ≡ length
+        (images_of change.now.kind columns.now change.now.before change.now.after) }
     ensures most { result ≤ 8388752 }
 {
     match change.kind {
@@ -65,7 +67,7 @@ fn images_size(columns: &[Column], change: &Change) -> u64
     }
 }
 
-/// The size of the image of a row that may be absent: nothing where it is.
+/// Returns the length in bytes of the row image of a row, or 0 if there is no row.
 #[tactic(auto, unfolding(rb_log_defs::specs::Rows::row_image))]
 fn image_of_size(columns: &[Column], row: &Option<Row>) -> u64
     requires image { IsImage columns.now row.now }
@@ -94,7 +96,7 @@ fn values_size(columns: &[Column], values: &[Value]) -> u64
     size
 }
 
-/// The size of a value as a column of its type holds it.
+/// Returns the length in bytes of a value of a column.
 #[tactic(auto, unfolding(rb_log_defs::specs::Rows::text_bytes))]
 fn value_size(column: Column, value: &Value) -> u64
     requires { FitsColumn column value.now }

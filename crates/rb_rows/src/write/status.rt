@@ -8,9 +8,9 @@ use byteorder::{ByteOrder, LittleEndian};
 use rb_base::{EpochBody, NoMemory};
 use std::alloc::Global;
 
-/// Appends the payload of the apply-status rows of an epoch: the site's own row, and the primary's where the epoch
-/// reflects one of its epochs. `last` sets the flag that ends the statement. Without memory the output stays as it
-/// was.
+/// Appends the payload of the apply-status rows of an epoch: the site's own row, and the primary's
+/// row if the epoch reflects one of the primary's epochs. `last` sets the flag that ends the
+/// statement. If memory allocation fails, `out` is unchanged.
 pub fn write_status(
     alloc: Global,
     out: &mut Vec<u8>,
@@ -25,7 +25,7 @@ pub fn write_status(
     Ok(())
 }
 
-/// That payload. It is made apart, so that the output has all of it or nothing.
+/// Returns that payload. It is built separately, so that `out` gets all of it or nothing.
 #[tactic(auto, unfolding(rb_log_defs::specs::Rows::rows_payload, rb_base::specs::Length::length_bytes))]
 fn status_payload(alloc: Global, body: &EpochBody, last: bool) -> Result<Vec<u8>, NoMemory>
     ensures { IfOk result (λ payload. payload.items ≡ status_written body.now last) }
@@ -40,7 +40,7 @@ fn status_payload(alloc: Global, body: &EpochBody, last: bool) -> Result<Vec<u8>
     Ok(payload)
 }
 
-/// The row image of a server and the last epoch of its that is in the rows.
+/// Returns the row image of a server and the last epoch of that server whose rows are applied.
 #[tactic(auto, unfolding(rb_log_defs::specs::Rows::row_image, rb_log_defs::specs::Rows::text_bytes))]
 fn status_image(server: u32, epoch: u64) -> [u8; 30]
     ensures { result ≡ row_image status_columns (status_row server epoch) }

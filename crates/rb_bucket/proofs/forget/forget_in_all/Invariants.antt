@@ -3,7 +3,7 @@ use Rattle.std.specs.Prelude.{if◌then◌else◌, nat_le}
 use Rattle.rb_bucket.specs.Bucket.{changes_at}
 use Rattle.rb_bucket.proofs.forget.forget_in_all.Given as goal
 
--- the buckets so far have forgotten, and those ahead are as they were
+-- the buckets so far have forgotten, and those ahead are unchanged
 abbrev pub invariant-loop-index : goal.invariant-loop-index
 invariant-loop-index l = record {
   count : length l.buckets.items ≡ length l.fn.buckets.items;

@@ -7,7 +7,8 @@ use Rattle.rb_commit.proofs.Judged.{first_left}
 use Rattle.rb_commit.proofs.NamedRows.{names_row}
 use Rattle.rb_commit.proofs.transaction.prepare.Given as goal
 
--- the rows and the changes of the operations so far, of which none is refused: those that are left decide
+-- the rows and the changes of the operations so far, of which none is refused: those that are left
+-- decide
 abbrev pub invariant-loop-number : goal.invariant-loop-number
 invariant-loop-number l = record {
   named : (t k : ℕ) → is_named l.named t k ≡ list_any (names_row t k) (take l.number l.operations);

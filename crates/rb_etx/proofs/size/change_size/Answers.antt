@@ -9,4 +9,4 @@ returns-clause-size c =
     let table = c.table_of-table.result.now in let change = c.args.change.now in
     let size : c.size_of_rows.result ≡ length (change_payload table.columns change 0)
     = c.size_of_rows.ensures.size false ∙ ap length (written_is table c.from_ref.result.now change false c.from_ref.ensures.value (sym c.table_of-table.ensures.id)) in
-    omega (arith, c.from.ensures, rw c.table_of-table.ensures.columns at size)
+    omega (arith, rw c.table_of-table.ensures.columns at size)

@@ -2,7 +2,7 @@ use Rattle.std.proofs.Common.{◌≡◌, ◌≤◌, ◌*◌, length, take}
 use Rattle.rb_log_defs.specs.Table.{all_metadata}
 use Rattle.rb_etx.proofs.size.metadata_size.Given as goal
 
--- the size of the metadata so far
+-- the length of the metadata so far
 abbrev pub invariant-loop-column : goal.invariant-loop-column
 invariant-loop-column l = record {
   size : l.size ≡ length (all_metadata (take l.column-index l.columns));

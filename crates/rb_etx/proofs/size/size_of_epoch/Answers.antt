@@ -12,4 +12,4 @@ returns c start =
     let maps : c.maps_size-maps.result ≡ maps_size body.tables = c.maps_size-maps.ensures.size ∙ ap maps_size c.as_slice-tables.ensures in
     let status : c.size_of_status.result ≡ length (status_payload body) = c.size_of_status.ensures.size (length body.changes == 0) ∙ ap length (status_payload_written body) in
     let changes : c.changes_size-changes.result ≡ changes_size body.tables body.changes = c.changes_size-changes.ensures.size ∙ ap₂ changes_size c.as_slice-tables.ensures c.as_slice.ensures in
-    omega (arith, maps, c.from.ensures, status, changes, epoch_length body start)
+    omega (arith, maps, status, changes, epoch_length body start)

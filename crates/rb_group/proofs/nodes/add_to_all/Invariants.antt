@@ -7,7 +7,7 @@ use Rattle.rb_group.specs.Group.{IsOrdered}
 use Rattle.rb_group.specs.Nodes.{AllHold}
 use Rattle.rb_group.proofs.nodes.add_to_all.Given as goal
 
--- the buffers below the index are as they are to be, and the others as they were
+-- the buffers below the index are as they are to be, and the others unchanged
 abbrev pub invariant-loop-index : goal.invariant-loop-index
 invariant-loop-index l = record {
   count : length l.buffers.items ≡ length l.initial.buffers.items;

@@ -2,7 +2,7 @@ use Rattle.std.proofs.Common.{length, ◌<◌, ◌≤◌}
 use Rattle.std.specs.Io.KnownBytes.{Consumes}
 use Rattle.rb_io.proofs.whole.read_by.Given as goal
 
--- the bytes so far are read, at least one by each turn, and they are not too many
+-- the bytes so far are read and within the limit, and each round read at least one
 abbrev pub invariant-loop : goal.invariant-loop
 invariant-loop g l = record {
   consumed : Consumes (g.I.Source.left l.initial.source) (g.I.Source.left l.source) l.bytes.items;

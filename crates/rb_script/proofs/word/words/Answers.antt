@@ -3,7 +3,7 @@ use Rattle.std.specs.Option.{option_map}
 use Rattle.std.proofs.lemmas.List.{map-append}
 use Rattle.rb_text_defs.specs.Words.{Quoted, plain_words, words_of}
 use Rattle.rb_script.specs.Seen.{word_of}
-use Rattle.rb_script.proofs.WordLaws.{pieces_of, words_of_last, in_front}
+use Rattle.rb_script.proofs.WordLaws.{pieces_of, words_of_last, in_prefix}
 use Rattle.rb_script.proofs.word.words.Goals as goal
 
 pub returns-in_default-text : goal.returns-in_default-text
@@ -18,7 +18,7 @@ loop-outside-preserved c =
     ap (map word_of) c.in_ok-push.ensures.items ∙ map-append word_of c.push_plain_words.new.words.items _
     ∙ ap (λ words. words ++ Quoted c.in-Some-text.text.now ∷ []) c.in_ok-push_plain_words.ensures in
     c.loop-outside.invariant ∙ ap (λ words. option_map (λ later. map word_of c.loop-outside.words.items ++ later) words) read
-    ∙ in_front (map word_of c.loop-outside.words.items) (plain_words c.in-Some.outside.now) (Quoted c.in-Some-text.text.now) (words_of c.in-Some-text.after.now)
+    ∙ in_prefix (map word_of c.loop-outside.words.items) (plain_words c.in-Some.outside.now) (Quoted c.in-Some-text.text.now) (words_of c.in-Some-text.after.now)
     ∙ ap (λ words. option_map (λ later. words ++ later) (words_of c.in-Some-text.after.now)) (sym pushed)
 
 pub returns : goal.returns

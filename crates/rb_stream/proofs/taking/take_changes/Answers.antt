@@ -10,6 +10,6 @@ pub returns : goal.returns
 returns c known held = (
   refl,
   changes_taken c.in-Some.epoch c.change.new.self c.args.end c.args.server c.args.changes known (opened c.args.current.now c.in-Some.epoch (open_epoch known) c.in-Some.is held)
-      c.in_ok-change-in-Some.ensures.ok c.in_ok-change-in-Some.ensures.told c.in_ok-change-in-Some.ensures.tables,
+      c.in_ok-change-in-Some.ensures.ok c.in_ok-change-in-Some.ensures.epoch_status c.in_ok-change-in-Some.ensures.tables,
   refl,
 )

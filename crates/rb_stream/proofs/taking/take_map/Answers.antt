@@ -10,6 +10,6 @@ pub returns : goal.returns
 returns c known held = (
   refl,
   map_taken c.in-Some.epoch c.map.new.self c.args.end c.args.server c.args.table known (opened c.args.current.now c.in-Some.epoch (open_epoch known) c.in-Some.is held)
-      c.in_ok-map-in-Some.ensures.ok c.in_ok-map-in-Some.ensures.told c.in_ok-map-in-Some.ensures.changes,
+      c.in_ok-map-in-Some.ensures.ok c.in_ok-map-in-Some.ensures.epoch_status c.in_ok-map-in-Some.ensures.changes,
   refl,
 )

@@ -1,7 +1,7 @@
 use Rattle.std.proofs.Common.{ℕ, subst}
 use Rattle.rb_play_defs.specs.Step.{site_step, written_bodies}
 use Rattle.rb_play_defs.specs.Play.{log_step}
-use Rattle.rb_play_defs.specs.Part.{HoldsPart}
+use Rattle.rb_play_defs.specs.UnfinishedLog.{HoldsUnfinishedLog}
 use Rattle.rb_play_defs.specs.declared.event.SiteEvent.TheVariants.{DeliverAll}
 use Rattle.rb_site.proofs.BeginLaws.{on_err}
 use Rattle.rb_top.proofs.Running.{stopped_first, stopped_second, logged_as}
@@ -19,7 +19,7 @@ step-requires-2 g c =
 pub returns-in_err-site-2-clause-stopped : goal.returns-in_err-site-2-clause-stopped
 returns-in_err-site-2-clause-stopped g c =
     on_err c.from_residual-in_err-site-2.result (λ shape run held.
-    subst (λ (limit : ℕ). HoldsPart limit 0 (written_bodies shape (log_step shape run).run) (g.D.LogDisk.seen c.step-2.new.disk)) c.in_ok-site.ensures.limit
+    subst (λ (limit : ℕ). HoldsUnfinishedLog limit 0 (written_bodies shape (log_step shape run).run) (g.D.LogDisk.seen c.step-2.new.disk)) c.in_ok-site.ensures.limit
     (stopped_second shape _ _ run _ (c.in_err-site-2.ensures.stopped shape (site_step shape run DeliverAll).run (c.in_ok-site.ensures.stepped shape run held tt).0)))
 
 pub returns-clause-played : goal.returns-clause-played

@@ -49,25 +49,25 @@ returns-clause-a_bad_script_is_refused g c = λ bytes bad left is. inr (inr refl
 pub run-requires-clause-legal : goal.run-requires-clause-legal
 run-requires-clause-legal g c = legal_script _ c.in-Ok-parse.parsed c.in-Ok-parse.ensures.ok
 
-pub returns-in-Err-NoMemory-run-clause-want_of_memory_leaves_a_part : goal.returns-in-Err-NoMemory-run-clause-want_of_memory_leaves_a_part
-returns-in-Err-NoMemory-run-clause-want_of_memory_leaves_a_part g c = λ _.
+pub returns-in-Err-NoMemory-run-clause-no_memory_leaves_an_unfinished_log : goal.returns-in-Err-NoMemory-run-clause-no_memory_leaves_an_unfinished_log
+returns-in-Err-NoMemory-run-clause-no_memory_leaves_an_unfinished_log g c = λ _.
     inr (stopped_running _ _ _ _ c.in-Ok-parse.parsed _ (λ same. absurd cc)
     (read_whole _ _ _ _ c.in-Ok.ensures.ok.0 c.in-Ok.ensures.ok.1 (sym (ap script_of c.as_slice.ensures) ∙ c.in-Ok-parse.ensures.ok)) c.in-Ok.ensures.ok.1 c.in-Err-NoMemory-run.ensures.err)
 
-pub returns-in-Err-DiskFault-clause-a_fault_leaves_a_part : goal.returns-in-Err-DiskFault-clause-a_fault_leaves_a_part
-returns-in-Err-DiskFault-clause-a_fault_leaves_a_part g c = λ _.
+pub returns-in-Err-DiskFault-clause-a_fault_leaves_an_unfinished_log : goal.returns-in-Err-DiskFault-clause-a_fault_leaves_an_unfinished_log
+returns-in-Err-DiskFault-clause-a_fault_leaves_an_unfinished_log g c = λ _.
     stopped_running _ _ _ _ c.in-Ok-parse.parsed _ (λ same. absurd cc)
     (read_whole _ _ _ _ c.in-Ok.ensures.ok.0 c.in-Ok.ensures.ok.1 (sym (ap script_of c.as_slice.ensures) ∙ c.in-Ok-parse.ensures.ok)) c.in-Ok.ensures.ok.1 c.in-Err-DiskFault.ensures.err
 
-pub returns-in-Err-Failed-write_all-clause-a_fault_leaves_a_part : goal.returns-in-Err-Failed-write_all-clause-a_fault_leaves_a_part
-returns-in-Err-Failed-write_all-clause-a_fault_leaves_a_part g c = λ _.
+pub returns-in-Err-Failed-write_all-clause-a_fault_leaves_an_unfinished_log : goal.returns-in-Err-Failed-write_all-clause-a_fault_leaves_an_unfinished_log
+returns-in-Err-Failed-write_all-clause-a_fault_leaves_an_unfinished_log g c = λ _.
     stopped_printing _ _ _ _ _ c.in-Ok-parse.parsed _ (λ disk. disk)
     (read_whole _ _ _ _ c.in-Ok.ensures.ok.0 c.in-Ok.ensures.ok.1 (sym (ap script_of c.as_slice.ensures) ∙ c.in-Ok-parse.ensures.ok)) c.in-Ok.ensures.ok.1
     (subst (λ (report : List ℕ). GrowsByPrefix (g.O.Sink.held c.args.out.now) (g.O.Sink.held c.write_all.new.out) report) (c.as_slice-2.ensures ∙ c.in-Ok-run.ensures.ok.0) c.in-Err-Failed-write_all.ensures.prefix)
     c.in-Ok-run.ensures.ok.1
 
-pub returns-clause-want_of_memory_leaves_a_part : goal.returns-clause-want_of_memory_leaves_a_part
-returns-clause-want_of_memory_leaves_a_part g c = λ _.
+pub returns-clause-no_memory_leaves_an_unfinished_log : goal.returns-clause-no_memory_leaves_an_unfinished_log
+returns-clause-no_memory_leaves_an_unfinished_log g c = λ _.
     inr (stopped_printing _ _ _ _ _ c.in-Ok-parse.parsed _ (λ disk. disk)
     (read_whole _ _ _ _ c.in-Ok.ensures.ok.0 c.in-Ok.ensures.ok.1 (sym (ap script_of c.as_slice.ensures) ∙ c.in-Ok-parse.ensures.ok)) c.in-Ok.ensures.ok.1
     (subst (λ (report : List ℕ). GrowsByPrefix (g.O.Sink.held c.args.out.now) (g.O.Sink.held c.write_all.new.out) report) (c.as_slice-2.ensures ∙ c.in-Ok-run.ensures.ok.0) c.in-Err-NoMemory-write_all.ensures.prefix)

@@ -1,5 +1,5 @@
 use Rattle.std.proofs.Common.{ap, Err}
-use Rattle.rb_top.proofs.TellLaws.{err_leaves, sink_leaves, title_part, no_part, at_ok, at_err, not_read, was_write, rose_later}
+use Rattle.rb_top.proofs.PrintLaws.{err_leaves, sink_leaves, title_part, no_part, at_ok, at_err, not_read, was_write, rose_later}
 use Rattle.rb_top.proofs.read.read_log.Goals as goal
 
 pub returns-in_err-piece-clause-err : goal.returns-in_err-piece-clause-err
@@ -16,7 +16,7 @@ pub returns-in_err-write_all-clause-write_fault : goal.returns-in_err-write_all-
 returns-in_err-write_all-clause-write_fault g c = λ of. c.in_err-write_all.ensures.failed (ap Err (was_write c.from_residual-in_err-write_all.result c.in_err-write_all.field-0.0 c.from_residual-in_err-write_all.ensures.1 of))
 
 pub returns-clause-ok : goal.returns-clause-ok
-returns-clause-ok g c = at_ok c.read_by.result c.read_by.ensures.ok (λ told. told _ c.in_ok-write_all.ensures.ok)
+returns-clause-ok g c = at_ok c.read_by.result c.read_by.ensures.ok (λ reported. reported _ c.in_ok-write_all.ensures.ok)
 
 pub returns-clause-err : goal.returns-clause-err
 returns-clause-err g c = at_err c.read_by.result _ _ c.read_by.ensures.err (λ fault left. left _ c.in_ok-write_all.ensures.ok)

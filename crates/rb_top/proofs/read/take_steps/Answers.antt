@@ -1,7 +1,7 @@
 use Rattle.std.proofs.Common.{ℕ, ◌∙◌, sym, ap, ap₂, subst, arith, Err}
 use Rattle.std.specs.Prelude.{Option, Some}
 use Rattle.rb_base.specs.declared.faults.Field.{Field}
-use Rattle.rb_top.specs.Reading.{HasTakenAll}
+use Rattle.rb_top.specs.ReadLoop.{HasTakenAll}
 use Rattle.rb_top.proofs.TakeLaws.{taken_more, taken_all, taken_to_bad, taken_few, printable}
 use Rattle.rb_top.proofs.read.take_steps.Goals as goal
 

@@ -6,9 +6,9 @@ use Rattle.rb_play_defs.specs.Play.{tables_left}
 use Rattle.rb_top.proofs.TableLaws.{text_of_tables}
 use Rattle.rb_top.proofs.run.put_tables.Given as goal
 
--- the tables so far are told
+-- the tables so far are printed
 abbrev pub invariant-loop-place : goal.invariant-loop-place
 invariant-loop-place l = record {
-  told : (journal : Journal) → ((table key : ℕ) → rows_in l.tables table key ≡ row_at A table key journal) →
+  reported : (journal : Journal) → ((table key : ℕ) → rows_in l.tables table key ≡ row_at A table key journal) →
       l.text.items ≡ l.initial.text.items ++ text_of_tables (tables_left (take l.place l.schemas) journal);
 }

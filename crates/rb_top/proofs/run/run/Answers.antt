@@ -5,7 +5,7 @@ use Rattle.rb_text_defs.specs.Report.{log_lines, text_of_lines}
 use Rattle.rb_play_defs.specs.Play.{shape_of, play, log_of, log_rows, tables_left}
 use Rattle.rb_site.proofs.BeginLaws.{on_err, empty_is_image}
 use Rattle.rb_site.proofs.InjectLaws.{err_anyway}
-use Rattle.rb_top.proofs.Running.{one_log, part_of_any, report_is, whole_behind}
+use Rattle.rb_top.proofs.Running.{one_log, part_of_any, report_is, whole_after}
 use Rattle.rb_top.proofs.TableLaws.{text_of_tables}
 use Rattle.rb_top.proofs.run.run.Goals as goal
 
@@ -13,13 +13,13 @@ pub returns-in_err-text-clause-err : goal.returns-in_err-text-clause-err
 returns-in_err-text-clause-err g c = on_err c.from_residual.result (part_of_any _ _ _ (empty_is_image c.args.script.setup.a.limit _ c.requires.empty))
 
 pub returns-in_err-put_log-clause-err : goal.returns-in_err-put_log-clause-err
-returns-in_err-put_log-clause-err g c = err_anyway c.from_residual-in_err-put_log.result _ (λ fault. whole_behind c.args.script c.in_ok-site.site _ c.in_ok-site.ensures.limit c.in_ok-site.ensures.played)
+returns-in_err-put_log-clause-err g c = err_anyway c.from_residual-in_err-put_log.result _ (λ fault. whole_after c.args.script c.in_ok-site.site _ c.in_ok-site.ensures.limit c.in_ok-site.ensures.played)
 
 pub returns-in_err-put_tables-clause-err : goal.returns-in_err-put_tables-clause-err
-returns-in_err-put_tables-clause-err g c = err_anyway c.from_residual-in_err-put_tables.result _ (λ fault. whole_behind c.args.script c.in_ok-site.site _ c.in_ok-site.ensures.limit c.in_ok-site.ensures.played)
+returns-in_err-put_tables-clause-err g c = err_anyway c.from_residual-in_err-put_tables.result _ (λ fault. whole_after c.args.script c.in_ok-site.site _ c.in_ok-site.ensures.limit c.in_ok-site.ensures.played)
 
 pub returns-in_err-extend_from_slice-clause-err : goal.returns-in_err-extend_from_slice-clause-err
-returns-in_err-extend_from_slice-clause-err g c = err_anyway c.from_residual-in_err-extend_from_slice.result _ (λ fault. whole_behind c.args.script c.in_ok-site.site _ c.in_ok-site.ensures.limit c.in_ok-site.ensures.played)
+returns-in_err-extend_from_slice-clause-err g c = err_anyway c.from_residual-in_err-extend_from_slice.result _ (λ fault. whole_after c.args.script c.in_ok-site.site _ c.in_ok-site.ensures.limit c.in_ok-site.ensures.played)
 
 pub returns-clause-ok : goal.returns-clause-ok
 returns-clause-ok g c =
@@ -29,4 +29,4 @@ returns-clause-ok g c =
     let rows = c.tables.ensures shape _ _ stands in
     let journal = (play c.args.script).run.journal in
     let tables = c.in_ok-put_tables.ensures journal rows ∙ ap (λ (schemas : List Schema). c.put_log.new.text.items ++ text_of_tables (tables_left schemas journal)) c.as_slice.ensures in
-    (c.from_vec.ensures ∙ report_is c.args.script _ _ _ _ _ c.in_ok-text.ensures.items c.in_ok-site.ensures.told (c.in_ok-put_log.ensures shape _ _ stands ∙ ap (λ (limit : ℕ). c.play.new.text.items ++ text_of_lines (log_lines A (log_rows limit (log_of c.args.script)))) c.in_ok-site.ensures.limit) tables c.in_ok-extend_from_slice.ensures.items, one)
+    (c.from_vec.ensures ∙ report_is c.args.script _ _ _ _ _ c.in_ok-text.ensures.items c.in_ok-site.ensures.reported (c.in_ok-put_log.ensures shape _ _ stands ∙ ap (λ (limit : ℕ). c.play.new.text.items ++ text_of_lines (log_lines A (log_rows limit (log_of c.args.script)))) c.in_ok-site.ensures.limit) tables c.in_ok-extend_from_slice.ensures.items, one)

@@ -4,7 +4,7 @@ use Rattle.std.specs.BTreeMap.{BTreeMap}
 use Rattle.rb_base.specs.declared.change.Change.{Change}
 use Rattle.rb_bucket.proofs.bucket.BucketBuffer.new.Given as goal
 
--- so many buckets, each with nothing
+-- this many buckets, each with nothing
 abbrev pub invariant-loop : goal.invariant-loop
 invariant-loop l = record {
   count : length l.kept.items ≡ l.counter;

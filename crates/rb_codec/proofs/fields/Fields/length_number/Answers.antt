@@ -2,7 +2,7 @@ use Rattle.std.proofs.Common.{◌≡◌, ◌+◌, ◌≤◌, ℕ, Bool, true, fa
 use Rattle.std.specs.Prelude.{slice_get}
 use Rattle.std.proofs.lemmas.Bool.{leb-true}
 use Rattle.std.proofs.lemmas.Option.{slice_get_within}
-use Rattle.rb_base.specs.Length.{length_read, width_behind}
+use Rattle.rb_base.specs.Length.{length_read, width_after}
 use Rattle.rb_base.specs.declared.faults.LengthRead.{LengthRead}
 use Rattle.rb_base.specs.declared.faults.LengthRead.TheVariants as lengths
 use Rattle.rb_codec.proofs.fields.Fields.length_number.Goals as goal
@@ -29,7 +29,7 @@ read_within bytes at n after e = by_first (slice_get bytes at) refl
     by_first (Some first) is =
         let lt = slice_get_within bytes at first is in
         let e' = rw is at e in
-        by_tests _ _ (nat_le (at + 1 + width_behind first) (length bytes)) first (at + 1) _ (at + 1 + width_behind first) n after (length bytes) (omega (arith, lt)) (leb-true _ _) e'
+        by_tests _ _ (nat_le (at + 1 + width_after first) (length bytes)) first (at + 1) _ (at + 1 + width_after first) n after (length bytes) (omega (arith, lt)) (leb-true _ _) e'
 
 pub invariant_of-self : goal.invariant_of-self
 invariant_of-self c = record { within = read_within c.args.self.now.bytes.now c.args.self.now.at c.in-Number.number c.in-Number.after (sym c.in-Number.ensures) }

@@ -23,4 +23,4 @@ returns-clause-kept c = λ fed stands.
     (λ e b p. added.kept (entered.sound stands.sound) (let h : c.enter.new.self.buckets ≡ c.args.self.now.buckets = entered.buckets in omega (arith, c.requires.bucket)) e b p
     ∙ ap (λ (o : Option Change). option_or o (if (c.args.epoch.0 == e) && (c.args.bucket == b) && (c.args.place == p) then Some c.args.change else None)) (entered.places e b p))
     (λ e b. added.counts e b ∙ entered.counts e b)
-    (λ e. ap (λ (m : BTreeMap ℕ Epoch). option_map (λ (next : Epoch). next.0) (tree.get nat_cmp m e)) (added.behind ∙ entered.behind))
+    (λ e. ap (λ (m : BTreeMap ℕ Epoch). option_map (λ (next : Epoch). next.0) (tree.get nat_cmp m e)) (added.following ∙ entered.following))

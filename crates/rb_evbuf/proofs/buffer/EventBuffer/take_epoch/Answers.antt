@@ -13,7 +13,7 @@ returns-then-is_some-clause-answer c = λ fed stands chained. sym (not_assembled
 pub returns-then-is_some-clause-taken : goal.returns-then-is_some-clause-taken
 returns-then-is_some-clause-taken c = λ fed stands chained. stands_untaken c.args.self.now fed stands (not_assembled fed c.missing.result (c.missing.ensures fed stands chained) (sym c.is_some.ensures ∙ c.if-is_some.true))
 
--- where nothing is missing, neither look-up fails
+-- if nothing is missing, neither look-up fails
 pub returns-in_err-epoch-clause-answer : goal.returns-in_err-epoch-clause-answer
 returns-in_err-epoch-clause-answer c = λ fed stands chained. absurd (is_there c.args.self.now fed c.missing.result stands chained (c.missing.ensures fed stands chained) (sym c.is_some.ensures ∙ c.if-is_some.false)
     (ap (λ (o : Option Epoch). option_and_then (tree.get nat_cmp c.args.self.now.epochs) (option_map (λ (e : Epoch). e.0) o)) (sym c.in_err-epoch.ensures.value)))

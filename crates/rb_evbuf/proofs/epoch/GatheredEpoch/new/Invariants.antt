@@ -3,7 +3,7 @@ use Rattle.std.specs.List.{All}
 use Rattle.rb_evbuf.specs.Gathered.{IsBlank}
 use Rattle.rb_evbuf.proofs.epoch.GatheredEpoch.new.Given as goal
 
--- so many blank buckets, and as many parts
+-- this many blank buckets, and as many parts
 abbrev pub invariant-loop-bucket : goal.invariant-loop-bucket
 invariant-loop-bucket l = record {
   width : length l.gathered.items ≡ l.bucket;

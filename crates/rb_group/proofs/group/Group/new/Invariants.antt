@@ -6,7 +6,7 @@ use Rattle.rb_group.specs.Kept.{HoldsNode, new_group}
 use Rattle.rb_group.specs.Nodes.{numbers_from}
 use Rattle.rb_group.proofs.group.Group.new.Given as goal
 
--- so many nodes, each with an empty buffer of all buckets, and their numbers as owners
+-- this many nodes, each with an empty buffer of all buckets, and their numbers as owners
 abbrev pub invariant-loop-index : goal.invariant-loop-index
 invariant-loop-index l = record {
   count : length l.buffers.items ≡ l.index;

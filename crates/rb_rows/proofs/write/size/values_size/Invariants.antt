@@ -2,7 +2,7 @@ use Rattle.std.proofs.Common.{◌≡◌, ◌≤◌, ◌+◌, ◌*◌, length, dr
 use Rattle.rb_log_defs.specs.Rows.{values_bytes}
 use Rattle.rb_rows.proofs.write.size.values_size.Given as goal
 
--- the size so far and that of the values from here on are the whole
+-- the length so far and that of the values from here on are the whole length
 abbrev pub invariant-loop-index : goal.invariant-loop-index
 invariant-loop-index l = record {
   whole : l.size + length (values_bytes (drop l.index l.columns) (drop l.index l.values)) ≡ length (values_bytes l.columns l.values);

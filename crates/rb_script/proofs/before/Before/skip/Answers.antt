@@ -1,5 +1,5 @@
-use Rattle.rb_script.proofs.TellsLaws.{told_skipped}
+use Rattle.rb_script.proofs.SummaryLaws.{skipped_summary}
 use Rattle.rb_script.proofs.before.Before.skip.Goals as goal
 
-pub returns-clause-told : goal.returns-clause-told
-returns-clause-told c = λ readings told. told_skipped readings c.args.self.now told c.requires
+pub returns-clause-summary : goal.returns-clause-summary
+returns-clause-summary c = λ readings summary. skipped_summary readings c.args.self.now summary c.requires

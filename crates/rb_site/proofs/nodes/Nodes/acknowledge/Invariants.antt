@@ -4,7 +4,7 @@ use Rattle.rb_group.specs.declared.group.Group.{Group}
 use Rattle.rb_site.specs.Nodes.{Buffered, with_acknowledged, GroupHolds, HoldsNodes}
 use Rattle.rb_site.proofs.nodes.Nodes.acknowledge.Given as goal
 
--- the groups below the index know it, and the others are as they were
+-- the groups below the index know it, and the others are unchanged
 abbrev pub invariant-loop-index : goal.invariant-loop-index
 invariant-loop-index l = record {
   replicas : l.self.replicas ≡ l.initial.self.replicas;

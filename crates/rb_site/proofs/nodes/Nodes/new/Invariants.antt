@@ -3,7 +3,7 @@ use Rattle.rb_play_defs.specs.Step.{nodes_at_first}
 use Rattle.rb_site.specs.Nodes.{nothing_done, GroupsHold}
 use Rattle.rb_site.proofs.nodes.Nodes.new.Given as goal
 
--- so many groups, which have buffered nothing
+-- this many groups, which have buffered nothing
 abbrev pub invariant-loop-number : goal.invariant-loop-number
 invariant-loop-number l = record {
   count : length l.all.items ≡ l.number;

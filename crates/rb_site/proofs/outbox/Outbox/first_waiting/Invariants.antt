@@ -3,7 +3,7 @@ use Rattle.rb_base.specs.declared.message.Sent.{Sent}
 use Rattle.rb_site.specs.Outbox.{HoldsSent}
 use Rattle.rb_site.proofs.outbox.Outbox.first_waiting.Given as goal
 
--- the outbox stands for what it stood for
+-- the outbox represents what it represented
 abbrev pub invariant-loop-place : goal.invariant-loop-place
 invariant-loop-place l = record {
   holds : (sent : List Sent) (delivered : List ℕ) (failed_at : ℕ → ℕ) → HoldsSent l.initial.self sent delivered failed_at → HoldsSent l.self sent delivered failed_at;

@@ -1,7 +1,7 @@
 use Rattle.std.proofs.Common.{sym, ap, subst, ◌∙◌, arith}
 use Rattle.rb_play_defs.specs.Step as play
 use Rattle.rb_play_defs.specs.Step.{Progress, written_bodies}
-use Rattle.rb_play_defs.specs.Part.{HoldsPart}
+use Rattle.rb_play_defs.specs.UnfinishedLog.{HoldsUnfinishedLog}
 use Rattle.rb_site.specs.Site.{EventFits, limit_of}
 use Rattle.rb_site.proofs.StandLaws.{rest_there}
 use Rattle.rb_site.proofs.TxLaws.{if_ok_more}
@@ -17,7 +17,7 @@ returns-in-Inject-clause-stays g c = if_stopped_more c.inject.result _ _ c.injec
 
 pub returns-in-Inject-clause-part : goal.returns-in-Inject-clause-part
 returns-in-Inject-clause-part g c = λ cut shape run held.
-    subst (λ (p : Progress). HoldsPart (limit_of c.args.self) run.written (written_bodies shape p) (g.D.LogDisk.seen c.inject.new.disk)) (sym (turn_is_step shape run) ∙ sym (ap (λ (s : play.Stepped). s.run) (is_inject shape run c.args.event.now c.in-Inject.is)))
+    subst (λ (p : Progress). HoldsUnfinishedLog (limit_of c.args.self) run.written (written_bodies shape p) (g.D.LogDisk.seen c.inject.new.disk)) (sym (turn_is_step shape run) ∙ sym (ap (λ (s : play.StepResult). s.run) (is_inject shape run c.args.event.now c.in-Inject.is)))
     (c.inject.ensures.part cut shape run held)
 
 pub returns-in-Injector-clause-stepped : goal.returns-in-Injector-clause-stepped

@@ -15,7 +15,7 @@ returns-clause-goes c known knows =
       ap (λ (n : ℕ). c.args.self.now.at + n) c.from.ensures,
       c.skip.ensures,
       refl,
-      c.counted_behind-self.ensures
+      c.counted_after-self.ensures
           ∙ ap (λ (b : Bool). if not b then c.args.self.now.at + c.from.result else c.args.self.now.counted) c.is_some.ensures
           ∙ ap (λ (b : Bool). if b then c.args.self.now.at + c.from.result else c.args.self.now.counted) (sym outside)
           ∙ ap (λ (n : ℕ). if is_outside known (record { end = c.args.self.now.at + c.args.header.size; server = c.args.header.server; says = c.args.content }) then c.args.self.now.at + n else c.args.self.now.counted) c.from.ensures,

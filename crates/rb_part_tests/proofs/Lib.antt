@@ -1,0 +1,2 @@
+mod IndexLaws
+mod InjectLaws
