@@ -3,8 +3,8 @@
 //!
 //! A [`BinlogFiles`] represents a binlog of the definitions (`StandsFor`): the full files, and the
 //! last one. After each call it represents the binlog with what the call added, or the contract
-//! says what a fault leaves. The log device, the writers of single events and the definitions of
-//! the log stand below; the injector stands above.
+//! says what a fault leaves. It uses the log device, the writers of single events and the
+//! definitions of the log; the injector uses it.
 #![tactic(auto)]
 
 mod append;

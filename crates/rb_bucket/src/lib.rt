@@ -3,7 +3,7 @@
 //!
 //! A buffer holds a list of changes for each bucket and epoch (`changes_kept`), and the closed
 //! epochs (`closes_kept`); each call says how these change. Both give the messages of a bucket that
-//! are resent (`messages_kept`). The buffered values stand below.
+//! are resent (`messages_kept`).
 #![tactic(auto)]
 
 mod bucket;

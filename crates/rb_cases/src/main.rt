@@ -87,7 +87,7 @@ fn is_passed<R: Files + AllocGlobal + Print + Threads + Sync>(
     }
 }
 
-// Plays a case file, once a row if it ends with a table. Returns the first difference.
+// Plays a case file, once for each row if it ends with a table. Returns the first difference.
 fn difference_of_file<R: Files + AllocGlobal + Threads + Sync>(
     rt: &R,
     parts: &[Part],
@@ -101,7 +101,7 @@ fn difference_of_file<R: Files + AllocGlobal + Threads + Sync>(
     }
 }
 
-// Plays a case once a row. Returns the first difference, with its row.
+// Plays a case once for each row. Returns the first difference, with its row.
 fn difference_of_rows<R: AllocGlobal + Threads + Sync>(
     rt: &R,
     parts: &[Part],
@@ -133,7 +133,7 @@ fn difference_of_row<R: AllocGlobal + Threads + Sync>(
     difference_of(rt, parts, text.as_str())
 }
 
-// Plays a case once. Returns the first difference between what it wants and what came.
+// Plays a case once. Returns the first difference between the expected and the actual result.
 fn difference_of<R: AllocGlobal + Threads + Sync>(
     rt: &R,
     parts: &[Part],

@@ -1,7 +1,7 @@
 use crate::fault::{Fault, bad};
 use std::alloc::Global;
 
-/// A case that is played once a row.
+/// A case that is played once for each row.
 #[derive(Clone, Copy)]
 pub(crate) struct Table<'a> {
     /// The text before the table.

@@ -1,8 +1,8 @@
 //! The program. It hands the process's arguments, its standard streams and two devices in memory to
 //! [`rb_top::top`], and exits with the number that the status has for a shell.
 //!
-//! Its one contract is that the words are the process's arguments. The call of the program, which
-//! carries the theorem, and the exit numbers stand below; nothing stands above.
+//! Its one contract is that the words are the process's arguments. The call of the program carries
+//! the theorem.
 #![tactic(auto)]
 
 mod arguments;

@@ -8,9 +8,9 @@
 //! bytes: the value, or the first field that is missing or wrong, with its place. A reader whose
 //! value contains a list may return `NoMemory` instead.
 //!
-//! Below stand the values and the definitions of the log, with the laws that a written event is
-//! read as it was written. Above stand the writers of epochs and files, the decoder, and the
-//! readers of rows, which read field by field with [`Fields`].
+//! It uses the values and the definitions of the log, with the laws that a written event is read
+//! back. The writers of epochs and files, the decoder and the readers of rows use it; the readers
+//! of rows read field by field with [`Fields`].
 #![tactic(auto)]
 
 mod bitmap;

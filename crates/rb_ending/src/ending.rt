@@ -28,9 +28,9 @@ pub fn exit_number(status: Status) -> u8
     }
 }
 
-/// Writes the line that names a failure; writes nothing at `Done`. At an `Err` a prefix of the line
-/// may be written. Only the lines for a bad script, a bad log and a device that is not empty
-/// allocate.
+/// Writes the line that names a failure; writes nothing at `Done`. On an `Err`, a prefix of the
+/// line has been written; it may be empty. Only the lines for a bad script, a bad log and a device
+/// that is not empty allocate.
 pub fn print_status<O: Sink>(alloc: Global, out: &mut O, status: Status) -> Result<(), OutFault>
     ensures whole { OnOk result (Appends (O.held out.old) (O.held out.new) (fault_line_of status)) }
     ensures part { OnErr result (GrowsByPrefix (O.held out.old) (O.held out.new)

@@ -2,8 +2,7 @@
 //! standard error before it exits.
 //!
 //! The contracts say that each status has the number and the line that the definitions give. The
-//! program, whose statuses these are, and the edges stand below; the processes, each with its
-//! `main`, stand above.
+//! statuses are those of the program; each process with a `main` uses this crate.
 #![tactic(auto)]
 
 mod ending;

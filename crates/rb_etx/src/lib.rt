@@ -2,9 +2,9 @@
 //! rows, a rows event for each change, and the XID.
 //!
 //! [`encode_epoch`] returns exactly the bytes that the definitions of the log give for the epoch at
-//! that position, or an error if there are too many; [`size_of_epoch`] returns their number. Below
-//! stand the values, the definitions of the log, the writers of single events, and the writers of
-//! the payloads of rows events. Above stands the injector.
+//! that position, or an error if there are too many; [`size_of_epoch`] returns their number. It
+//! uses the values, the definitions of the log, the writers of single events, and the writers of
+//! the payloads of rows events. The injector uses it.
 #![tactic(auto)]
 
 mod epoch;

@@ -1,8 +1,7 @@
 //! The event buffer of the injector: it assembles epochs from the messages of data nodes.
 //!
 //! A buffer represents what it was fed (`StandsFor`): the last epoch taken from it, and all
-//! messages that it received. Each result is a fact on those. The definitions of what is received
-//! and missing stand below.
+//! messages that it received. Each result is a fact on those.
 #![tactic(auto)]
 
 mod buffer;

@@ -5,7 +5,7 @@
 //! A group represents what was done in it, and which of its nodes are up (`Keeps`). A commit adds a
 //! change to each buffer, a close adds a closed epoch, and acknowledged epochs are released. What
 //! is sent is read from the buffer of a node that covers, which holds everything that is
-//! unacknowledged. The buffer of one node stands below.
+//! unacknowledged.
 #![tactic(auto)]
 
 mod answers;

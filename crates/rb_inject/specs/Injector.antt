@@ -26,7 +26,8 @@ pub record LogSetup : Type 0 where
 abbrev pub IsLimit : ℕ → Type 0
 IsLimit limit = (512 ≤ limit) × (limit ≤ 67108864)
 
--- such a limit, and tables that can be mapped
+-- a legal setup: files can have its limit, its tables can be mapped, and there are at most 65536 of
+-- them
 pub record IsLogSetup (setup : LogSetup) : Type 0 where
   pub limit : IsLimit setup.limit
   pub tables : All CanBeMapped setup.tables
@@ -42,7 +43,7 @@ pub record StandsFor (injector : Injector) (setup : LogSetup) (bodies : List Epo
   pub rows : injector.index ≡ index_rows setup.site setup.limit bodies
   pub held : HoldsLog setup.site setup.limit bodies seen
 
--- the injector has logged some bodies
+-- the injector has logged the bodies of some list, possibly empty, with some setup
 abbrev pub Stands : Injector → (seen : ℕ → List ℕ) → Type 0
 Stands injector seen = (setup : LogSetup) × (bodies : List EpochBody) × StandsFor injector setup bodies seen
 
@@ -54,7 +55,7 @@ last_file_of injector = binlog.number_of injector.files
 abbrev pub written_of : Injector → ℕ
 written_of injector = last_epoch_of injector.index
 
--- what it logs of an assembled epoch
+-- what an injector logs of an assembled epoch
 abbrev pub body_for : Injector → Assembled → EpochBody
 body_for injector assembled = body_of_assembled injector.site injector.tables assembled
 
@@ -76,13 +77,15 @@ pub record CanBeRecovered (setup : LogSetup) (bodies : List EpochBody) (seen : �
   pub logged : CanBeLogged bodies
   pub few : IfSome (last_or None (index_rows setup.site setup.limit bodies)) (λ row. row.file < 4294967294)
 
--- a device holds the binlog of these bodies up to their last row, which is this one
+-- `last` is the last index row of these bodies, or `None`; the device holds their binlog up to the
+-- end of that row's epoch; the bodies can be logged, and the row's file number leaves room for one
+-- more
 pub record HoldsBinlogTo (site : SiteId) (limit : ℕ) (last : Option IndexRow) (bodies : List EpochBody) (seen : ℕ → List ℕ) : Type 0 where
   pub last_is : last ≡ last_or None (index_rows site limit bodies)
   pub files : HoldsUpTo last (binlog_files site limit bodies) seen
   pub logged : CanBeLogged bodies
   pub few : IfSome last (λ row. row.file < 4294967294)
 
--- the limit of its files
+-- the limit of an injector's files, in bytes
 abbrev pub limit_of : Injector → ℕ
 limit_of injector = injector.limit

@@ -1,6 +1,6 @@
 -- The body of an epoch, which the injector logs. As the MySQL manual describes for NDB Cluster
--- Replication, the injector writes an epoch as one transaction of the binlog, in the order of the
--- epochs, and skips empty epochs. The buckets are this project's own.
+-- Replication, the injector writes each epoch as one transaction of the binlog, in order, and skips
+-- empty epochs. The buckets are this project's own.
 use Rattle.std.specs.Prelude.{ℕ, zero, suc, ◌==◌, ◌&&◌, ◌||◌, not, Bool, true, false, if◌then◌else◌, List, [], ◌∷◌, ◌++◌, filter, map, take, Option, Some, None, is_some, codes}
 use Rattle.std.specs.List.{flat_map, list_any, enumerate_from}
 use Rattle.rb_base.specs.Bucket.{bucket_number}
@@ -40,7 +40,7 @@ changes_in site epoch (entry ∷ older) =
 abbrev pub in_bucket : (buckets bucket : ℕ) → List Change → List Change
 in_bucket buckets bucket changes = filter (λ change. bucket_number change.table change.key buckets == bucket) changes
 
--- the part of a bucket in an epoch
+-- a bucket's part of an epoch: the changes of the epoch whose key is in the bucket
 abbrev pub part_of : Shape → (epoch bucket : ℕ) → Journal → List Change
 part_of shape epoch bucket journal = in_bucket shape.buckets bucket (changes_in shape.site epoch journal)
 
@@ -66,8 +66,8 @@ last_source epoch (Applied own source transid accepted refreshes ∷ older) =
     if own == epoch then Some (record { 0 = source }) else last_source epoch older
 last_source epoch (Closed own ∷ older) = last_source epoch older
 
--- the reflected epoch: the secondary records the last epoch of the primary that it applied; the
--- primary records none
+-- the reflected epoch: the secondary records the last epoch of the primary that it applied within
+-- this epoch, if any; the primary records none
 abbrev pub reflected_in : SiteId → (epoch : ℕ) → Journal → Option Epoch
 reflected_in A epoch journal = None
 reflected_in B epoch journal = last_source epoch journal
@@ -107,6 +107,6 @@ completed_epochs shape journal = filter (λ epoch. has_something_to_log (body_of
 unfoldable pub completed_bodies : Shape → Journal → List EpochBody
 completed_bodies shape journal = map (λ epoch. body_of shape epoch journal) (completed_epochs shape journal)
 
--- the first `n` of these bodies, which are those that the injector has logged
+-- the first `n` of these bodies: those that an injector has logged after `n` logged epochs
 abbrev pub logged_bodies : Shape → (n : ℕ) → Journal → List EpochBody
 logged_bodies shape n journal = take n (completed_bodies shape journal)

@@ -2,8 +2,7 @@
 //! report, and prints the files of both devices, byte by byte.
 //!
 //! Its contracts say that the words are those of a run, and that the text printed is exactly the
-//! one that the definitions give for two devices. [`rb_top::top`], which carries the theorem, and
-//! the exit numbers stand below; nothing stands above.
+//! one that the definitions give for two devices. [`rb_top::top`] carries the theorem.
 #![tactic(auto)]
 
 ghost use Rattle.std.specs.Prelude.{◌≡◌, ◌∷◌, [], codes, IfOk};

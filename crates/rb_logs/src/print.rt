@@ -10,7 +10,8 @@ use rb_disk::MemoryDisk;
 use rb_io::{Sink, write_all};
 use std::alloc::Global;
 
-/// Prints the files of both sites' devices. At an `Err` a prefix of the text may be written.
+/// Prints the files of both sites' devices. On an `Err`, a prefix of the text has been written; it
+/// may be empty.
 pub(crate) fn print_files<O: Sink>(
     alloc: Global,
     disk_a: &MemoryDisk,

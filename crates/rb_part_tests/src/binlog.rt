@@ -46,7 +46,8 @@ fn a_file_begins_with_its_magic_and_format(rt: HostRuntime) -> Result<(), Fail> 
     let files = BinlogFiles::create(alloc, SiteId::B, &mut disk)?;
     assert_eq!(rt; files.end(), (1, 115));
     assert_eq!(rt; disk.len(1), 115);
-    // the magic number, and the header of a format event of server 2: 111 bytes, which end at 115
+    // the magic number, and the header of server 2's format description event, which has 111 bytes
+    // and ends at 115
     let start = [
         0xfe, 0x62, 0x69, 0x6e, 0, 0, 0, 0, 15, 2, 0, 0, 0, 0x6f, 0, 0, 0, 0x73, 0, 0, 0, 0, 0,
     ];
@@ -60,7 +61,8 @@ fn a_file_is_rotated_at_the_limit(rt: HostRuntime) -> Result<(), Fail> {
     let alloc = rt.alloc();
     let mut disk = MemoryDisk::new(alloc);
     assert_eq!(rt; rotate_filled(alloc, 683, &mut disk)?, (true, (2, 115)));
-    // a rotate event of server 1: 39 bytes, which end at 722, position 4, and `a-bin.000002`
+    // a rotate event of server 1: it has 39 bytes, ends at 722, and names position 4 of
+    // `a-bin.000002`
     let event = [
         0, 0, 0, 0, 4, 1, 0, 0, 0, 0x27, 0, 0, 0, 0xd2, 2, 0, 0, 0, 0, 4, 0, 0, 0, 0, 0, 0, 0,
         0x61, 0x2d, 0x62, 0x69, 0x6e, 0x2e, 0x30, 0x30, 0x30, 0x30, 0x30, 0x32,
@@ -125,7 +127,7 @@ fn bytes_are_read_up_to_the_end(rt: HostRuntime) -> Result<(), Fail> {
     assert_eq!(rt; middle.as_slice(), b"bcd".as_slice());
     let last = BinlogFiles::read_at(alloc, 1, 4, 10, &mut disk)?;
     assert_eq!(rt; last.as_slice(), b"ef".as_slice());
-    // these make no call of the device, so the next call is the one that fails
+    // these read nothing from the device, so the next read is call 6, which fails
     let following = BinlogFiles::read_at(alloc, 1, 7, 1, &mut disk)?;
     assert_eq!(rt; following.len(), 0);
     let none = BinlogFiles::read_at(alloc, 1, 2, 0, &mut disk)?;

@@ -3,8 +3,8 @@
 //!
 //! The contract of each function is that its result is the value of one definition: the files of a
 //! binlog with their rotation, its index rows, the index file, and the place at which the log
-//! continues after an epoch. Below stand the writers of events and of epochs. Nothing above needs
-//! this crate: the program writes its log piece by piece to a device, with functions of its own.
+//! continues after an epoch. It uses the writers of events and of epochs. The program does not use
+//! it: the program writes its log piece by piece to a device, with functions of its own.
 #![tactic(auto)]
 
 mod index;

@@ -6,9 +6,8 @@
 //! missing or wrong, with its place. A writer appends exactly the bytes that the definitions of the
 //! log give; if memory allocation fails, it leaves the output unchanged.
 //!
-//! Below stand the values, those definitions, with the laws that a written payload is read as it
-//! was written, and the fields of an event. Above stand the writers of epochs and the readers of
-//! whole files.
+//! It uses the values, those definitions, with the laws that a written payload is read back, and
+//! the fields of an event. The writers of epochs and the readers of whole files use it.
 #![tactic(auto)]
 
 mod read;

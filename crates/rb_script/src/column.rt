@@ -12,7 +12,8 @@ use std::alloc::Global;
 pub(crate) enum ColumnType {
     /// A number.
     Num,
-    /// A text of at most this many bytes, at least 1. It may be more than a row has room for.
+    /// A text of at most this many bytes. The number is at least 1, and may exceed what a row has
+    /// room for.
     Text(u32),
 }
 
@@ -30,7 +31,7 @@ pub(crate) fn type_of(word: Word<'_>) -> Option<ColumnType>
     Some(ColumnType::Text(most))
 }
 
-/// Returns the most bytes of a text, from the number after `text:`.
+/// Returns the maximum length of a text in bytes: the number below 2^32 after `text:`.
 fn maximum_of(word: Word<'_>) -> Option<u32>
     ensures { result ≡ maximum_of (word_of word.entry) }
 {

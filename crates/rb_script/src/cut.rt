@@ -4,8 +4,8 @@ ghost use Rattle.std.specs.Option.{option_map_or};
 ghost use Rattle.std.specs.List.{slice_split};
 ghost use Rattle.rb_text_defs.specs.Words.{ends_with, lines_of, without_return};
 
-/// Splits a text that is not empty after its first line. Returns the line without its end, and the
-/// text after it.
+/// Splits a non-empty text after its first line. Returns the line without its end, and the text
+/// after it.
 pub(crate) fn first_line(text: &[u8]) -> (&[u8], &[u8])
     requires { 0 < length text.now }
     ensures lines { lines_of text.now ≡ result.0.now ∷ lines_of result.1.now }
@@ -36,7 +36,8 @@ fn ends_with_return(line: &[u8]) -> bool
     !line.is_empty() && line[line.len() - 1] == b'\r'
 }
 
-/// Returns what stands before the first byte `at`, and what stands after it if there is one.
+/// Returns the bytes before the first byte that equals `at`, and the bytes after it. Without such a
+/// byte, returns the whole text and `None`.
 pub(crate) fn cut(text: &[u8], at: u8) -> (&[u8], Option<&[u8]>)
     ensures split { slice_split (λ byte. byte == at) text.now
         ≡ result.0.now ∷ option_map_or (λ rest. slice_split (λ byte. byte == at) rest.now) result.1

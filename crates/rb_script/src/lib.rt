@@ -3,8 +3,7 @@
 //! Its contract: a script is accepted exactly if the definitions give one for its bytes, and the
 //! result is that one. Otherwise the line and the kind are those of the first line that the
 //! definitions refuse. Parsing is one pass, in time linear in the bytes, and ends at the first bad
-//! line. The types and definitions of scripts stand below; the program, which plays the events,
-//! stands above.
+//! line. It uses the types and definitions of scripts; the program plays the events.
 #![tactic(auto)]
 
 mod before;

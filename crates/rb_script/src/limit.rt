@@ -9,10 +9,10 @@ use crate::column::ColumnType;
 use rb_base::{Schema, SiteSetup};
 use rb_text_defs::Limit;
 
-/// The most bytes of a script.
+/// The most bytes that a script may have.
 pub const MOST_SCRIPT_BYTES: u64 = 33554432;
 
-/// The most lines of a script.
+/// The most lines that a script may have.
 pub(crate) const MOST_LINES: u32 = 100000;
 
 const MOST_TABLES: usize = 32;
@@ -91,7 +91,7 @@ pub(crate) fn table_limit(tables: &[Schema], types: &[ColumnType]) -> Option<Lim
     None
 }
 
-/// Returns the most bytes of a row of a key and columns of these types.
+/// Returns the maximum size in bytes of a row with a key and columns of these types.
 fn row_bytes(types: &[ColumnType]) -> u64
     requires { length types.now ≤ 15 }
     ensures { result ≡ row_bytes (map column_seen types.now) }
@@ -103,7 +103,7 @@ fn row_bytes(types: &[ColumnType]) -> u64
     bytes
 }
 
-/// Returns the most bytes of a column in a row. A text has a length before it.
+/// Returns the maximum size in bytes of a column in a row. A text has a length before it.
 fn column_bytes(column_type: ColumnType) -> u64
     ensures bytes { result ≡ column_bytes (column_seen column_type) }
     ensures few { result ≤ 2 ^ 32 + 1 }

@@ -20,7 +20,7 @@ pub(crate) enum ReadLine<'a> {
     Says(Form<'a>),
 }
 
-/// What a line says.
+/// Returns what a line says. The only error is `NoMemory`.
 #[tactic(auto, unfolding(rb_text_defs::specs::Form::reading_of))]
 pub(crate) fn read_line(alloc: Global, line: &[u8]) -> Result<ReadLine<'_>, NoMemory>
     ensures { IfOk result (λ reading. reading_seen reading ≡ reading_of line.now) }
@@ -37,7 +37,8 @@ pub(crate) fn read_line(alloc: Global, line: &[u8]) -> Result<ReadLine<'_>, NoMe
     }
 }
 
-/// Returns what the words of a line say, if they are well formed and of a form.
+/// Returns the form that the words of a line have, or `None` if a text is malformed or no form
+/// matches.
 fn form_in(alloc: Global, line: &[u8]) -> Result<Option<Form<'_>>, NoMemory>
     ensures { IfOk result (λ form. option_map form_seen form
         ≡ (words_of line.now read_on form_of)) }

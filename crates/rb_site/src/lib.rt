@@ -3,9 +3,9 @@
 //!
 //! A [`Site`] represents a point of a run (`IsSite`). [`Site::step`] plays one event: whatever
 //! point the site represented, it now represents the point after the event, and the outcome is the
-//! event's. If the log device fails during an event, a [`StoppedSite`] is left. The parts of a
-//! site, the injector with the log device, and the definitions of journal, messages and run stand
-//! below; the top call stands above.
+//! event's. If the log device fails during an event, a [`StoppedSite`] is left. It uses the parts
+//! of a site, the injector with the log device, and the definitions of journal, messages and run;
+//! the top call uses it.
 #![tactic(auto)]
 
 pub mod law;

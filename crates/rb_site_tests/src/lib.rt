@@ -2,7 +2,7 @@
 //! be moved to another thread.
 //!
 //! Whole runs are cases of `rb_cases`; these tests show what no report says. They have a crate of
-//! their own, since a crate with tests is proved twice. Nothing stands above it.
+//! their own, since a crate with tests is proved twice. Nothing uses it.
 #![tactic(auto)]
 
 #[cfg(test)]

@@ -2,8 +2,8 @@
 //!
 //! A [`Decoder`] represents the position at which it began, all bytes that it was fed, and the
 //! events whose steps it has returned. Each result is what the definitions of reading give for all
-//! those bytes, joined. It therefore does not depend on how the bytes were cut into pieces. Below
-//! stand the readers of single events; above stand the readers of whole logs.
+//! those bytes, joined. It therefore does not depend on how the bytes were cut into pieces. It uses
+//! the readers of single events; the readers of whole logs use it.
 #![tactic(auto)]
 
 mod content;

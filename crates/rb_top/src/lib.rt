@@ -2,8 +2,8 @@
 //! or it reads a log and prints its epochs.
 //!
 //! [`top`] carries the project's theorem: what the sink and the device hold at each status, and
-//! when each status comes. The parser, the site, the printer and the edges stand below; the
-//! program's `main` stands above.
+//! when each status comes. It uses the parser, the site, the printer and the edges; the program's
+//! `main` uses it.
 #![tactic(auto)]
 
 mod fault;
