@@ -7,7 +7,7 @@ use Rattle.rb_base.specs.declared.change.Change.{Change}
 use Rattle.rb_base.specs.declared.body.EpochBody.{EpochBody}
 use Rattle.rb_log_defs.specs.Event.{Placed, query_event, xid_event}
 use Rattle.rb_log_defs.specs.Table.{all_metadata, bitmap_size, columns_of, status_table, table_map_payload, table_map_event}
-use Rattle.rb_log_defs.specs.Rows.{rows_type, change_payload, change_event, end_flag, status_payload, status_event}
+use Rattle.rb_log_defs.specs.Rows.{rows_type, change_payload, change_event, end_flag, ends_statement, status_payload, status_event}
 use Rattle.rb_log_defs.specs.Epoch.{joined_from, change_events, epoch_bytes}
 use Rattle.rb_log_defs.specs.Fits.{CanBeMapped}
 use Rattle.rb_log_defs.proofs.Joined.{joined_append}
@@ -33,12 +33,12 @@ changes_joined : (server : ℕ) (tables : List Mapped) (changes : List Change) (
 changes_joined server tables [] start = refl
 changes_joined server tables (change ∷ changes) start =
     let columns = columns_of tables change.table in
-    let event : List ℕ = change_event server columns change (end_flag changes) start in
+    let event : List ℕ = change_event server columns change (end_flag (ends_statement changes)) start in
     omega (
       arith,
       length-append event (joined_from (start + length event) (change_events server tables changes)),
-      event_length (rows_type change.kind) server (change_payload columns change (end_flag changes)) start,
-      change_length columns change (end_flag changes) 0,
+      event_length (rows_type change.kind) server (change_payload columns change (end_flag (ends_statement changes))) start,
+      change_length columns change (end_flag (ends_statement changes)) 0,
       changes_joined server tables changes (start + length event),
       sum_by-cons (change_size tables) change changes,
     )

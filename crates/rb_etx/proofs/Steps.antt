@@ -4,15 +4,9 @@ use Rattle.rb_base.specs.declared.schema.Mapped.{Mapped}
 use Rattle.rb_base.specs.declared.change.Change.{Change}
 use Rattle.rb_log_defs.specs.Event.{Placed}
 use Rattle.rb_log_defs.specs.Table.{table_map_event, columns_of}
-use Rattle.rb_log_defs.specs.Rows.{change_event, end_flag}
+use Rattle.rb_log_defs.specs.Rows.{change_event, end_flag, ends_statement}
 use Rattle.rb_log_defs.specs.Epoch.{joined_from, change_events}
 use Rattle.rb_log_defs.proofs.Joined.{IsLeft, one_fits, more_fits}
-
--- a change with another one after it does not end the statement
-pub flag_of_more : (changes : List Change) (i : ℕ) → i < length changes → end_flag (drop i changes) ≡ 0
-flag_of_more [] i inside = absurd (omega arith)
-flag_of_more (change ∷ changes) zero inside = refl
-flag_of_more (change ∷ changes) (suc i) inside = flag_of_more changes i (omega arith)
 
 -- the maps of the tables from `i` on are the map of the table `i` and the maps after it
 pub table_left : (start server : ℕ) (written : List ℕ) (tables : List Mapped) (i : ℕ) (table : Mapped) (total : List ℕ) →
@@ -25,7 +19,7 @@ table_left start server written tables i table total inside is left =
 -- the events of the changes from `i` on are the event of the change `i` and the events after it
 pub change_left : (start server : ℕ) (written : List ℕ) (tables : List Mapped) (changes : List Change) (i : ℕ) (change : Change) (total : List ℕ) →
     i < length changes → change ≡ get_or changes i change → IsLeft start written (change_events server tables (drop i changes)) total →
-    IsLeft start written (change_event server (columns_of tables change.table) change (end_flag (drop (i + 1) changes)) ∷ change_events server tables (drop (i + 1) changes)) total
+    IsLeft start written (change_event server (columns_of tables change.table) change (end_flag (ends_statement (drop (i + 1) changes))) ∷ change_events server tables (drop (i + 1) changes)) total
 change_left start server written tables changes i change total inside is left =
     let first : drop i changes ≡ change ∷ drop (suc i) changes = subst (λ (x : Change). drop i changes ≡ x ∷ drop (suc i) changes) (sym is) (drop-cons changes i change inside) in
     rw add-one (subst (λ (xs : List Change). IsLeft start written (change_events server tables xs) total) first left)

@@ -1,9 +1,8 @@
 ghost use Rattle.std.specs.Prelude.{ℕ, ◌≡◌, ◌+◌, ◌^◌, ◌<◌, ◌≤◌, ◌++◌, length, map, drop, All, Err, IfOk, OnOk};
 ghost use Rattle.rb_log_defs.specs.Table.{table_map_event, columns_of};
-ghost use Rattle.rb_log_defs.specs.Rows.{end_flag};
+ghost use Rattle.rb_log_defs.specs.Rows.{ends_statement};
 ghost use Rattle.rb_log_defs.specs.Epoch.{joined_from, change_events, epoch_bytes};
 ghost use Rattle.rb_log_defs.specs.Fits.{CanBeMapped, Fits, CanBeWritten};
-ghost use Rattle.rb_rows.specs.Written.{flag_of};
 
 use crate::event::{write_change, write_status_event};
 use crate::fault::EncodeFault;
@@ -134,7 +133,7 @@ fn write_changes(
 /// Returns whether this is the last change.
 fn is_last(changes: &[Change], index: usize) -> bool
     requires { index < length changes.now }
-    ensures { flag_of result ≡ end_flag (drop (index + 1) changes.now) }
+    ensures { result ≡ ends_statement (drop (index + 1) changes.now) }
 {
     index + 1 == changes.len()
 }

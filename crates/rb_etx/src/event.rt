@@ -1,8 +1,7 @@
 ghost use Rattle.std.specs.Prelude.{◌≡◌, ◌+◌, ◌^◌, ◌<◌, ◌≤◌, ◌++◌, length, OnOk};
 ghost use Rattle.rb_log_defs.specs.Event.{header_bytes, event_bytes};
-ghost use Rattle.rb_log_defs.specs.Rows.{rows_type, change_event, status_event};
+ghost use Rattle.rb_log_defs.specs.Rows.{rows_type, end_flag, change_event, status_event};
 ghost use Rattle.rb_log_defs.specs.Fits.{Fits};
-ghost use Rattle.rb_rows.specs.Written.{flag_of};
 
 use rb_base::{Change, EpochBody, Kind, Mapped, NoMemory};
 use rb_codec::{
@@ -28,9 +27,9 @@ pub(crate) fn write_change(
     requires few { length table.now.columns ≤ 64 }
     requires named { change.now.table ≡ table.now.id }
     requires fits { start + length
-        (change_event server table.now.columns change.now (flag_of last) start) < 2 ^ 32 }
+        (change_event server table.now.columns change.now (end_flag last) start) < 2 ^ 32 }
     ensures { OnOk result (out.new.items ≡ out.old.items
-        ++ change_event server table.now.columns change.now (flag_of last) start) }
+        ++ change_event server table.now.columns change.now (end_flag last) start) }
 {
     let changes = from_ref(change);
     let size = size_of_rows(table, changes);

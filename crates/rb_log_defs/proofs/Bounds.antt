@@ -1,5 +1,5 @@
 -- A bound on the length of an epoch with short rows.
-use Rattle.std.proofs.Common.{◌≡◌, ◌≤◌, ◌*◌, ℕ, ◌+◌, ◌-◌, ◌^◌, List, [], ◌∷◌, ◌++◌, length, refl, arith, length-append}
+use Rattle.std.proofs.Common.{◌≡◌, ◌≤◌, ◌*◌, ℕ, ◌+◌, ◌-◌, ◌^◌, List, [], ◌∷◌, ◌++◌, length, refl, ap, arith, append-nil, length-append}
 use Rattle.std.proofs.lemmas.List.{length-replicate}
 use Rattle.std.specs.Prelude.{map, codes, replicate, nat_le, Bool, true, false, if◌then◌else◌, Option, Some, None}
 use Rattle.std.proofs.lemmas.Grind.{common_steps}
@@ -19,7 +19,7 @@ use Rattle.rb_base.specs.declared.schema.Mapped.{Mapped}
 use Rattle.rb_base.specs.Length.{length_bytes}
 use Rattle.rb_log_defs.specs.Event.{Placed, query_event, xid_event}
 use Rattle.rb_log_defs.specs.Table.{metadata_of, all_metadata, bitmap_size, table_map_payload, table_map_event, columns_of, status_table}
-use Rattle.rb_log_defs.specs.Rows.{text_bytes, values_bytes, row_image, image_of, images_of, present_bitmap, present_bitmaps, rows_payload, rows_type, change_payload, change_event, transid_extra, status_payload, status_event, end_flag}
+use Rattle.rb_log_defs.specs.Rows.{text_bytes, values_bytes, row_image, image_of, images_of, present_bitmap, present_bitmaps, rows_payload, rows_type, change_payload, change_event, transid_extra, status_payload, status_event, end_flag, ends_statement}
 use Rattle.rb_log_defs.specs.Epoch.{joined_from, change_events, epoch_bytes}
 use Rattle.rb_log_defs.specs.Fits.{FitsColumns, IsImage, FitsKind, Fits}
 use Rattle.rb_log_defs.proofs.Sizes.{event_length, query_length, xid_length, table_map_payload_length}
@@ -92,12 +92,19 @@ rows_payload_bound : (table flags : ℕ) (extra : List ℕ) (columns : ℕ) (pre
 unfolding rows_payload
 rows_payload_bound table flags extra columns present rows = simp length-append (omega arith)
 
-pub change_bound : (server : ℕ) (columns : List Column) (change : Change) (flags start : ℕ) → AreShort columns → Fits columns change → length (change_event server columns change flags start) ≤ 2047
+-- the payload of the rows event of one change, with its row images alone
+pub change_payload_is : (columns : List Column) (change : Change) (flags : ℕ) → change_payload columns change flags
+    ≡ rows_payload change.table flags (transid_extra change.transid) (length columns) (present_bitmaps change.kind (length columns)) (images_of change.kind columns change.before change.after)
 unfolding change_payload
+change_payload_is columns change flags =
+    ap (rows_payload change.table flags (transid_extra change.transid) (length columns) (present_bitmaps change.kind (length columns))) (append-nil (images_of change.kind columns change.before change.after))
+
+pub change_bound : (server : ℕ) (columns : List Column) (change : Change) (flags start : ℕ) → AreShort columns → Fits columns change → length (change_event server columns change flags start) ≤ 2047
 change_bound server columns change flags start short fits =
     omega (
       arith,
       event_length (rows_type change.kind) server (change_payload columns change flags) start,
+      ap length (change_payload_is columns change flags),
       rows_payload_bound change.table flags (transid_extra change.transid) (length columns) (present_bitmaps change.kind (length columns)) (images_of change.kind columns change.before change.after),
       length_one (length columns) (let few = short.few in omega arith),
       presents_bound change.kind (length columns) short.few,
@@ -108,11 +115,11 @@ change_bound server columns change flags start short fits =
 changes_bound : (server : ℕ) (tables : List Mapped) (changes : List Change) (last : Placed) (most : ℕ) → ((at : ℕ) → length (last at) ≤ most) → AllByRecursion (λ change. AreShort (columns_of tables change.table) × Fits (columns_of tables change.table) change) changes → (start : ℕ) → length (joined_from start (change_events server tables changes ++ last ∷ [])) ≤ 2047 * length changes + most
 changes_bound server tables [] last most bound fit start = omega (arith, length-append (last start) [], bound start)
 changes_bound server tables (change ∷ changes) last most bound fit start =
-    let event : List ℕ = change_event server (columns_of tables change.table) change (end_flag changes) start in
+    let event : List ℕ = change_event server (columns_of tables change.table) change (end_flag (ends_statement changes)) start in
     omega (
       arith,
       length-append event (joined_from (start + length event) (change_events server tables changes ++ last ∷ [])),
-      change_bound server (columns_of tables change.table) change (end_flag changes) start fit.0.0 fit.0.1,
+      change_bound server (columns_of tables change.table) change (end_flag (ends_statement changes)) start fit.0.0 fit.0.1,
       changes_bound server tables changes last most bound fit.1 (start + length event),
     )
 

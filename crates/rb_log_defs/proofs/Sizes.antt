@@ -9,7 +9,7 @@ use Rattle.rb_base.specs.declared.site.SiteId.{SiteId}
 use Rattle.rb_base.specs.declared.site.SiteId.TheVariants.{A, B}
 use Rattle.rb_base.specs.declared.change.Change.{Change}
 use Rattle.rb_base.specs.declared.body.EpochBody.{EpochBody}
-use Rattle.rb_log_defs.specs.Rows.{rows_type, change_payload, end_flag, status_payload, status_event}
+use Rattle.rb_log_defs.specs.Rows.{rows_type, change_payload, end_flag, ends_statement, status_payload, status_event}
 use Rattle.rb_log_defs.specs.Epoch.{joined_from, change_events, epoch_events, epoch_bytes}
 use Rattle.rb_base.specs.Length.{length_bytes}
 use Rattle.rb_base.specs.declared.schema.Column.{Column}
@@ -115,7 +115,7 @@ maps_same_length server (table ∷ tables) = (event_same_length 19 server (table
 changes_same_length : (server : ℕ) (tables : List Mapped) (changes : List Change) → AreSameLength (change_events server tables changes)
 changes_same_length server tables [] = tt
 changes_same_length server tables (change ∷ changes) =
-    (event_same_length (rows_type change.kind) server (change_payload (columns_of tables change.table) change (end_flag changes)), changes_same_length server tables changes)
+    (event_same_length (rows_type change.kind) server (change_payload (columns_of tables change.table) change (end_flag (ends_statement changes))), changes_same_length server tables changes)
 
 events_same_length : (body : EpochBody) → AreSameLength (epoch_events body)
 events_same_length body =

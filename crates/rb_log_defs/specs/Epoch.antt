@@ -6,7 +6,7 @@ use Rattle.rb_base.specs.declared.body.EpochBody.{EpochBody}
 use Rattle.rb_base.specs.declared.schema.Mapped.{Mapped}
 use Rattle.rb_log_defs.specs.Event.{Placed, query_event, xid_event}
 use Rattle.rb_log_defs.specs.Table.{table_map_event, columns_of, status_table}
-use Rattle.rb_log_defs.specs.Rows.{change_event, end_flag, status_event}
+use Rattle.rb_log_defs.specs.Rows.{change_event, end_flag, ends_statement, status_event}
 
 -- the bytes of these events, joined, with the first event at this position
 abbrev pub joined_from : (start : ℕ) → List Placed → List ℕ
@@ -17,7 +17,7 @@ joined_from start (event ∷ events) = event start ++ joined_from (start + lengt
 abbrev pub change_events : (server : ℕ) → List Mapped → List Change → List Placed
 change_events server tables [] = []
 change_events server tables (change ∷ later) =
-    change_event server (columns_of tables change.table) change (end_flag later) ∷ change_events server tables later
+    change_event server (columns_of tables change.table) change (end_flag (ends_statement later)) ∷ change_events server tables later
 
 -- the events of an epoch: BEGIN, the table maps of the apply-status table and of the epoch's
 -- tables, the rows event of the apply-status table, the changes, XID

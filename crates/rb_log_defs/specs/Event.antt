@@ -2,6 +2,7 @@
 -- little-endian. This follows the MySQL manual on the binary log's format and event headers.
 use Rattle.std.specs.Prelude.{ℕ, ◌+◌, List, ◌∷◌, ◌++◌, length, replicate, codes}
 use Rattle.byteorder.specs.Endian.{little_bytes}
+use Rattle.rb_log_defs.specs.Types.{query_type, rotate_type, format_type, xid_type}
 
 -- the bytes of an event or an epoch, given the position in the file at which it starts
 abbrev pub Placed : Type 0
@@ -51,18 +52,18 @@ format_payload =
 unfoldable pub xid_payload : ℕ → List ℕ
 xid_payload xid = little_bytes 8 xid
 
--- the query event, of type 2
+-- the query event
 abbrev pub query_event : (server : ℕ) (text : List ℕ) → Placed
-query_event server text = event_bytes 2 server (query_payload text)
+query_event server text = event_bytes query_type server (query_payload text)
 
--- the rotate event, of type 4
+-- the rotate event
 abbrev pub rotate_event : (server position : ℕ) (name : List ℕ) → Placed
-rotate_event server position name = event_bytes 4 server (rotate_payload position name)
+rotate_event server position name = event_bytes rotate_type server (rotate_payload position name)
 
--- the format description event, of type 15
+-- the format description event
 abbrev pub format_event : (server : ℕ) → Placed
-format_event server = event_bytes 15 server format_payload
+format_event server = event_bytes format_type server format_payload
 
--- the XID event, of type 16, which ends a transaction
+-- the XID event, which ends a transaction
 abbrev pub xid_event : (server xid : ℕ) → Placed
-xid_event server xid = event_bytes 16 server (xid_payload xid)
+xid_event server xid = event_bytes xid_type server (xid_payload xid)

@@ -1,3 +1,4 @@
+pub mod Types
 pub mod Event
 pub mod Table
 pub mod Worked

@@ -1,6 +1,6 @@
 -- WRITE_ROWS, UPDATE_ROWS and DELETE_ROWS events, version 2, as in the binlog format. The extra
 -- data, which carries the transaction's number, is this project's own.
-use Rattle.std.specs.Prelude.{ℕ, ◌+◌, ◌-◌, ◌^◌, nat_le, if◌then◌else◌, List, [], ◌∷◌, ◌++◌, length, Option, Some, None}
+use Rattle.std.specs.Prelude.{ℕ, ◌+◌, ◌-◌, ◌^◌, nat_le, Bool, true, false, if◌then◌else◌, List, [], ◌∷◌, ◌++◌, length, Option, Some, None}
 use Rattle.std.specs.List.{flat_map, zip}
 use Rattle.byteorder.specs.Endian.{little_bytes}
 use Rattle.rb_base.specs.Length.{length_bytes}
@@ -14,6 +14,7 @@ use Rattle.rb_base.specs.declared.change.Kind.TheVariants.{Insert, Update, Remov
 use Rattle.rb_base.specs.declared.change.Change.{Change}
 use Rattle.rb_base.specs.declared.epoch.Epoch.{Epoch}
 use Rattle.rb_base.specs.declared.body.EpochBody.{EpochBody}
+use Rattle.rb_log_defs.specs.Types.{write_rows_type, update_rows_type, delete_rows_type}
 use Rattle.rb_log_defs.specs.Event.{Placed, zeros, event_bytes}
 use Rattle.rb_log_defs.specs.Table.{bitmap_size, status_columns}
 
@@ -70,25 +71,34 @@ rows_payload table flags extra columns present rows =
 
 -- the event type of each kind of change
 abbrev pub rows_type : Kind → ℕ
-rows_type Insert = 30
-rows_type Update = 31
-rows_type Remove = 32
+rows_type Insert = write_rows_type
+rows_type Update = update_rows_type
+rows_type Remove = delete_rows_type
 
--- the flag STMT_END_F, which only the last rows event of an epoch carries; `later` are the changes
--- after this event
-abbrev pub end_flag : List Change → ℕ
-end_flag [] = 1
-end_flag (change ∷ later) = 0
+-- the flags of a rows event: STMT_END_F if the event ends its statement
+abbrev pub end_flag : (last : Bool) → ℕ
+end_flag last = if last then 1 else 0
+
+-- a rows event ends its statement if no change follows it
+abbrev pub ends_statement : (later : List Change) → Bool
+ends_statement [] = true
+ends_statement (change ∷ later) = false
 
 -- the extra data of a change's rows event: the byte `52` and the transaction's number
 abbrev pub transid_extra : ℕ → List ℕ
 transid_extra transid = 82 ∷ little_bytes 8 transid
 
+-- the payload of the rows event of these changes of a table, which have the same kind and
+-- transaction; their row images follow each other
+abbrev pub rows_written : (table : ℕ) → List Column → List Change → (flags : ℕ) → List ℕ
+rows_written table columns [] flags = []
+rows_written table columns (first ∷ later) flags =
+    rows_payload table flags (transid_extra first.transid) (length columns) (present_bitmaps first.kind (length columns))
+    (flat_map (λ (change : Change). images_of change.kind columns change.before change.after) (first ∷ later))
+
 -- the payload of the rows event of one change
 unfoldable pub change_payload : List Column → Change → (flags : ℕ) → List ℕ
-change_payload columns change flags =
-    rows_payload change.table flags (transid_extra change.transid) (length columns)
-    (present_bitmaps change.kind (length columns)) (images_of change.kind columns change.before change.after)
+change_payload columns change flags = rows_written change.table columns (change ∷ []) flags
 
 -- the rows event of one change
 abbrev pub change_event : (server : ℕ) → List Column → Change → (flags : ℕ) → Placed
@@ -109,10 +119,14 @@ reflected_row (Some epoch) = row_image status_columns (status_row 1 epoch.0)
 abbrev pub status_rows : EpochBody → List ℕ
 status_rows body = row_image status_columns (status_row body.server body.epoch.0) ++ reflected_row body.reflected
 
--- the payload of the rows event of the apply-status rows; it carries the flag if no change follows
+-- the payload of the rows event of the apply-status rows of an epoch
+abbrev pub status_written : EpochBody → (flags : ℕ) → List ℕ
+status_written body flags = rows_payload 0 flags [] (length status_columns) (present_bitmap (length status_columns)) (status_rows body)
+
+-- that payload in its epoch: it ends the statement if the epoch has no change
 unfoldable pub status_payload : EpochBody → List ℕ
-status_payload body = rows_payload 0 (end_flag body.changes) [] (length status_columns) (present_bitmap (length status_columns)) (status_rows body)
+status_payload body = status_written body (end_flag (ends_statement body.changes))
 
 -- the rows event of the apply-status rows, which is a write
 abbrev pub status_event : EpochBody → Placed
-status_event body = event_bytes 30 body.server (status_payload body)
+status_event body = event_bytes write_rows_type body.server (status_payload body)

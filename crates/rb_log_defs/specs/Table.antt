@@ -8,6 +8,7 @@ use Rattle.rb_base.specs.Length.{length_bytes}
 use Rattle.rb_base.specs.declared.schema.Column.{Column}
 use Rattle.rb_base.specs.declared.schema.Column.TheVariants.{Num, Long, Text}
 use Rattle.rb_base.specs.declared.schema.Mapped.{Mapped}
+use Rattle.rb_log_defs.specs.Types.{table_map_type}
 use Rattle.rb_log_defs.specs.Event.{Placed, zeros, event_bytes}
 
 -- the type byte of a column: LONGLONG, LONG or VARCHAR
@@ -40,9 +41,9 @@ table_map_payload table =
     ++ (length_bytes (length (all_metadata table.columns)) ++ (all_metadata table.columns
     ++ zeros (bitmap_size (length table.columns)))))))))))))
 
--- the table map event of a table, of type 19
+-- the table map event of a table
 abbrev pub table_map_event : (server : ℕ) → Mapped → Placed
-table_map_event server table = event_bytes 19 server (table_map_payload table)
+table_map_event server table = event_bytes table_map_type server (table_map_payload table)
 
 -- the columns of the table with this id, or none if no table has it
 abbrev pub columns_of : List Mapped → ℕ → List Column

@@ -15,7 +15,7 @@ use Rattle.rb_base.specs.declared.epoch.Epoch.{Epoch}
 use Rattle.rb_base.specs.declared.body.EpochBody.{EpochBody}
 use Rattle.rb_log_defs.specs.Event.{Placed, event_bytes, query_payload, xid_payload, xid_event}
 use Rattle.rb_log_defs.specs.Table.{table_map_payload, table_map_event, columns_of, status_table}
-use Rattle.rb_log_defs.specs.Rows.{rows_type, end_flag, change_payload, status_payload, status_event}
+use Rattle.rb_log_defs.specs.Rows.{rows_type, end_flag, ends_statement, change_payload, status_payload, status_event}
 use Rattle.rb_log_defs.specs.Epoch.{joined_from, change_events, epoch_events, epoch_bytes}
 use Rattle.rb_log_defs.proofs.Sizes.{event_length}
 use Rattle.rb_read_defs.specs.Reading.{Read, number}
@@ -283,12 +283,12 @@ changes_told body end earlier readable rows up (change ∷ later) at known inner
     let one = all.0 in
     let there = one.table in
     let columns : List Column = columns_of body.tables change.table in
-    let payload : List ℕ = change_payload columns change (end_flag later) in
+    let payload : List ℕ = change_payload columns change (end_flag (ends_statement later)) in
     let same : columns_of body.tables change.table ≡ there.table.columns = rw there.first refl in
     let force : map_in_force known change.table ≡ Some there.table = in_force earlier known inner (maps_in body) (rows_of body) done change.table within ∙ there.last in
     event_told (rows_type change.kind) body.server payload at end known (Changes (change ∷ [])) (length payload) (change_events body.server body.tables later ++ xid_event body.server body.epoch.0 ∷ []) (steps_of earlier ++ steps.Epoch body end ∷ [])
     (rows_known change.kind) readable.server room within.rotated (rows_in_order change.kind at known (not_first at following) (rw within.opened refl))
-    (change_content at known body.server (end_flag later) columns change there.table there.passes one.fits same there.id_is (end_flag_small later) force) refl
+    (change_content at known body.server (end_flag (ends_statement later)) columns change there.table there.passes one.fits same there.id_is (end_flag_small (ends_statement later)) force) refl
     (λ next. changes_told body end earlier readable rows up later (at + (19 + length payload))
     (record { end = at + (19 + length payload); server = body.server; says = Changes (change ∷ []) } ∷ known) (record { end = at + (19 + length payload); server = body.server; says = Changes (change ∷ []) } ∷ inner) (done ++ change ∷ [])
     all.1 (append_assoc done (change ∷ []) later ∙ whole) (omega arith) (next_changes earlier known inner (maps_in body) (rows_of body) done (change ∷ []) body.server (at + (19 + length payload)) within) next)

@@ -1,6 +1,6 @@
 -- A written rows event is read as its rows.
 use Rattle.std.proofs.Common.{◌≡◌, ℕ, ◌+◌, ◌-◌, ◌*◌, ◌%◌, ◌^◌, ◌<◌, ◌≤◌, true, false, List, [], ◌∷◌, ◌++◌, length, get_or, refl, sym, ap, ◌∙◌, arith, inl, inr, append_assoc, length-append}
-use Rattle.std.specs.Prelude.{◌==◌, nat_le, if◌then◌else◌, Option, Some, None}
+use Rattle.std.specs.Prelude.{◌==◌, nat_le, Bool, if◌then◌else◌, Option, Some, None}
 use Rattle.std.proofs.lemmas.Bool.{le-leb, lt-leb, cases_lt}
 use Rattle.std.proofs.lemmas.Bool.Decides.{nat_tests}
 use Rattle.std.specs.List.{AllByRecursion}
@@ -25,8 +25,9 @@ use Rattle.rb_base.specs.declared.epoch.Epoch.{Epoch}
 use Rattle.rb_base.specs.declared.body.EpochBody.{EpochBody}
 use Rattle.rb_log_defs.specs.Event.{zeros}
 use Rattle.rb_log_defs.specs.Table.{bitmap_size, status_columns, status_table}
-use Rattle.rb_log_defs.specs.Rows.{text_bytes, value_bytes, values_bytes, row_image, images_of, present_bitmap, present_bitmaps, rows_payload, transid_extra, end_flag, change_payload, status_row, reflected_row, status_rows, status_payload}
+use Rattle.rb_log_defs.specs.Rows.{text_bytes, value_bytes, values_bytes, row_image, images_of, present_bitmap, present_bitmaps, rows_payload, transid_extra, end_flag, ends_statement, change_payload, status_row, reflected_row, status_rows, status_payload}
 use Rattle.rb_log_defs.specs.Fits.{FitsColumn, FitsColumns, FitsKind}
+use Rattle.rb_log_defs.proofs.Bounds.{change_payload_is}
 use Rattle.rb_read_defs.specs.Reading.{Read, ◌>>=◌, give, number}
 use Rattle.rb_read_defs.specs.Events.{all_set, used_bits}
 use Rattle.rb_read_defs.specs.Rows.{value_in, is_key, values_in, image, number_in, images, key_of, many, transid_in, present, presents, rows_head, changes, statuses}
@@ -183,7 +184,7 @@ key_back Remove columns None None key fits earlier later = absurd fits.0
 -- the rows event of a change of a table whose first column is a number
 pub changes_end : (table : Mapped) (server flags : ℕ) (change : Change) (rest : List Column) → table.columns ≡ columns.Num ∷ rest → AllByRecursion IsColumn table.columns → table.id < 65536 → length table.columns ≤ 64 →
     IsReadableChange server table.columns change → change.table ≡ table.id → flags < 2 ^ 16 → Ends (changes change.kind server table) (change_payload table.columns change flags) (change ∷ [])
-unfolding changes change_payload
+unfolding changes
 changes_end table server flags change rest first room id few readable same two =
     let read : Gives (images change.kind table.columns) (images_of change.kind table.columns change.before change.after) (change.before, change.after) =
     rw first (images_give change.kind rest change.before change.after change.key (rw first at room) (rw first at readable.fits) readable.before readable.after readable.key_before readable.key_after) in
@@ -194,7 +195,7 @@ changes_end table server flags change rest first room id few readable same two =
     let whole : rows_payload change.table flags (transid_extra change.transid) (length table.columns) (present_bitmaps change.kind (length table.columns)) rows ≡ head_bytes table.id flags (transid_extra change.transid) (length table.columns) (present_bitmaps change.kind (length table.columns)) ++ rows =
     payload_parts change.table flags (transid_extra change.transid) (length table.columns) (present_bitmaps change.kind (length table.columns)) rows
     ∙ ap (λ (id : ℕ). head_bytes id flags (transid_extra change.transid) (length table.columns) (present_bitmaps change.kind (length table.columns)) ++ rows) same in
-    rw whole
+    rw (change_payload_is table.columns change flags, whole)
     (then_ends _ (head_gives change.kind table flags (transid_extra change.transid) id few two (omega arith))
     (one_ends (made_gives _ read made) (images_some change.kind table.columns change.before change.after readable.fits some)))
 
@@ -203,15 +204,15 @@ status_image : (server epoch : ℕ) → server < 2 ^ 32 → epoch < 2 ^ 64 → G
 status_image server epoch one two =
     image_gives status_columns (status_row server epoch) None (tt, (tt, (omega arith, (tt, (tt, tt))))) (one, (tt, (omega arith, (tt, (tt, tt))))) (omega arith, (two, (tt, (omega arith, (omega arith, tt))))) (no_key (status_row server epoch).values)
 
-pub end_flag_small : (changes : List Change) → end_flag changes < 2 ^ 16
-end_flag_small [] = omega arith
-end_flag_small (change ∷ changes) = omega arith
+pub end_flag_small : (last : Bool) → end_flag last < 2 ^ 16
+end_flag_small true = omega arith
+end_flag_small false = omega arith
 
 pub statuses_end : (body : EpochBody) → body.server < 2 ^ 32 → body.epoch.0 < 2 ^ 64 → IsReflected body.reflected → Ends (statuses status_table) (status_payload body) (status_rows_of body)
 unfolding statuses status_payload
 statuses_end body server epoch reflected =
-    rw (payload_parts 0 (end_flag body.changes) [] (length status_columns) (present_bitmap (length status_columns)) (status_rows body))
-    (then_ends _ (head_gives Insert status_table (end_flag body.changes) [] (omega arith) (omega arith) (end_flag_small body.changes) (omega arith)) (by_reflected body.reflected reflected))
+    rw (payload_parts 0 (end_flag (ends_statement body.changes)) [] (length status_columns) (present_bitmap (length status_columns)) (status_rows body))
+    (then_ends _ (head_gives Insert status_table (end_flag (ends_statement body.changes)) [] (omega arith) (omega arith) (end_flag_small (ends_statement body.changes)) (omega arith)) (by_reflected body.reflected reflected))
   where
     by_reflected : (other : Option Epoch) → IsReflected other →
         Ends (many (image status_columns None >>= (λ row. give (record { server = number_in row 0; epoch = record { 0 = number_in row 1 } }))))
@@ -240,10 +241,10 @@ table_first table flags extra columns present rows small =
     gives_at_start (number_gives 6 table (omega arith)) (little_bytes 2 flags ++ (little_bytes 2 (2 + length extra) ++ (extra ++ (length_bytes columns ++ (present ++ rows)))))
 
 pub change_table_first : (columns : List Column) (change : Change) (flags : ℕ) → change.table < 2 ^ 48 → number 6 (change_payload columns change flags) 0 ≡ Read change.table 6
-unfolding change_payload
 change_table_first columns change flags small =
-    table_first change.table flags (transid_extra change.transid) (length columns) (present_bitmaps change.kind (length columns)) (images_of change.kind columns change.before change.after) small
+    rw (change_payload_is columns change flags)
+    (table_first change.table flags (transid_extra change.transid) (length columns) (present_bitmaps change.kind (length columns)) (images_of change.kind columns change.before change.after) small)
 
 pub status_table_first : (body : EpochBody) → number 6 (status_payload body) 0 ≡ Read 0 6
 unfolding status_payload
-status_table_first body = table_first 0 (end_flag body.changes) [] (length status_columns) (present_bitmap (length status_columns)) (status_rows body) (omega arith)
+status_table_first body = table_first 0 (end_flag (ends_statement body.changes)) [] (length status_columns) (present_bitmap (length status_columns)) (status_rows body) (omega arith)

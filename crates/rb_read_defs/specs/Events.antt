@@ -2,13 +2,14 @@
 -- table maps. The event types are those of the binlog format. A field that readers ignore may have
 -- any value.
 use Rattle.std.specs.Prelude.{ℕ, ◌+◌, ◌*◌, ◌-◌, ◌/◌, ◌%◌, ◌^◌, ◌==◌, nat_le, true, ◌&&◌, ◌||◌, Bool, if◌then◌else◌, List, [], ◌∷◌, length, drop, count_by, get_or, codes}
-use Rattle.std.specs.List.{list_all, list_any}
+use Rattle.std.specs.List.{list_all}
 use Rattle.std.specs.Str.{bytes_eq}
 use Rattle.byteorder.specs.Endian.{little_number}
 use Rattle.rb_base.specs.declared.faults.Field.TheVariants as fields
 use Rattle.rb_base.specs.declared.schema.Column.{Column}
 use Rattle.rb_base.specs.declared.schema.Column.TheVariants.{Num, Long, Text}
 use Rattle.rb_base.specs.declared.schema.Mapped.{Mapped}
+use Rattle.rb_log_defs.specs.Types.{known_types, is_one_of}
 use Rattle.rb_log_defs.specs.Event.{post_header_lengths}
 use Rattle.rb_log_defs.specs.Table.{bitmap_size}
 use Rattle.rb_read_defs.specs.Reading.{Reading, Reader, Read, Short, Wrong, ◌>>=◌, give, some_bytes, number, length_number, the_rest, the_end, that}
@@ -17,14 +18,9 @@ use Rattle.rb_read_defs.specs.declared.answers.QueryText.{QueryText}
 use Rattle.rb_read_defs.specs.declared.answers.QueryText.TheVariants.{Begin, Commit}
 use Rattle.rb_read_defs.specs.declared.answers.RotateTo.{RotateTo}
 
--- the event types that this program writes: QUERY, ROTATE, FORMAT_DESCRIPTION, XID, TABLE_MAP, and
--- the three kinds of rows events
-abbrev pub known_types : List ℕ
-known_types = 2 ∷ 4 ∷ 15 ∷ 16 ∷ 19 ∷ 30 ∷ 31 ∷ 32 ∷ []
-
--- a type is one of these
+-- a type that this program writes
 abbrev pub is_known : (kind : ℕ) → Bool
-is_known kind = list_any (λ known. known == kind) known_types
+is_known kind = is_one_of known_types kind
 
 -- LOG_EVENT_IGNORABLE_F: a reader that does not know the event's type skips the event
 abbrev pub is_ignorable : (flags : ℕ) → Bool

@@ -12,6 +12,7 @@ use Rattle.rb_base.specs.declared.change.Kind.TheVariants.{Insert, Update, Remov
 use Rattle.rb_base.specs.declared.change.Change.{Change}
 use Rattle.rb_base.specs.declared.epoch.Epoch.{Epoch}
 use Rattle.rb_base.specs.declared.body.EpochBody.{EpochBody}
+use Rattle.rb_log_defs.specs.Types.{query_type, rotate_type, format_type, xid_type, table_map_type, write_rows_type, update_rows_type, rows_types, is_one_of}
 use Rattle.rb_read_defs.specs.Reading.{Reading, Reader, Read, Short, Wrong, ◌>>=◌, give, number, that}
 use Rattle.rb_read_defs.specs.Events.{header, format, query, xid, rotate, table_map, is_known, is_status}
 use Rattle.rb_read_defs.specs.Rows.{changes, statuses}
@@ -117,15 +118,22 @@ is_rotated (event ∷ earlier) = rotates event.says
     rotates (Rotates to) = true
     rotates other = false
 
--- an event of this type is allowed here: only a format description at position 4; table maps, rows
--- events and XID within an epoch; format descriptions and rotations outside; a query event by its
--- text
+-- the types of events that are allowed only inside an epoch: XID, table maps and rows events
+abbrev pub inside_types : List ℕ
+inside_types = xid_type ∷ table_map_type ∷ rows_types
+
+-- the types of events that are allowed only outside an epoch: rotations and format descriptions
+abbrev pub outside_types : List ℕ
+outside_types = rotate_type ∷ format_type ∷ []
+
+-- an event of this type is allowed here: at position 4 only a format description, and after that by
+-- the two lists; a query event is allowed by its text, and other events are always allowed
 abbrev pub is_in_order : (at : ℕ) → (earlier : List Known) → (kind : ℕ) → Bool
 is_in_order at earlier kind =
-    if kind == 2 then true
-    else (if at == 4 then kind == 15
-    else (if (kind == 16) || (kind == 19) || (kind == 30) || (kind == 31) || (kind == 32) then is_open earlier
-    else (if (kind == 4) || (kind == 15) then not (is_open earlier) else true)))
+    if kind == query_type then true
+    else (if at == 4 then kind == format_type
+    else (if is_one_of inside_types kind then is_open earlier
+    else (if is_one_of outside_types kind then not (is_open earlier) else true)))
 
 -- the fault of an event's header after these earlier events, if it has one
 abbrev pub header_fault : (at : ℕ) → (earlier : List Known) → Header → Option Field
@@ -135,7 +143,7 @@ header_fault at earlier head =
 
 -- the kind of the changes in a rows event of this type
 abbrev pub kind_of : (type : ℕ) → Kind
-kind_of type = if type == 30 then Insert else (if type == 31 then Update else Remove)
+kind_of type = if type == write_rows_type then Insert else (if type == update_rows_type then Update else Remove)
 
 -- the content of a query event: BEGIN is allowed outside an epoch, COMMIT within one, and neither
 -- at position 4
@@ -164,7 +172,7 @@ rows_in earlier head = do
     of_table None = λ bytes at. Wrong 0 fields.TableId
     of_table (Some table) =
         if is_status table.schema table.name
-        then (if head.kind == 30
+        then (if head.kind == write_rows_type
         then at_start (statuses table) >>= (λ rows. give (Statuses rows))
         else (λ bytes at. Wrong 0 fields.Status))
         else at_start (changes (kind_of head.kind) head.server table) >>= (λ all. give (Changes all))
@@ -172,11 +180,11 @@ rows_in earlier head = do
 -- the content of an event, by its type; an event of any other type is skipped
 unfoldable pub content_in : (at : ℕ) → (earlier : List Known) → Header → Reader Content
 content_in at earlier head =
-    if head.kind == 2 then query_in at earlier
-    else (if head.kind == 4 then rotate >>= (λ to. give (Rotates to))
-    else (if head.kind == 15 then format >>= (λ unit. give Formats)
-    else (if head.kind == 16 then xid >>= (λ number. give Ends)
-    else (if head.kind == 19 then table_map >>= (λ table. give (Maps table))
+    if head.kind == query_type then query_in at earlier
+    else (if head.kind == rotate_type then rotate >>= (λ to. give (Rotates to))
+    else (if head.kind == format_type then format >>= (λ unit. give Formats)
+    else (if head.kind == xid_type then xid >>= (λ number. give Ends)
+    else (if head.kind == table_map_type then table_map >>= (λ table. give (Maps table))
     else (if is_known head.kind then rows_in earlier head else give Skipped)))))
 
 -- the apply-status rows of the open epoch so far

@@ -1,6 +1,7 @@
 -- The worked example as a file, and changed copies of it.
 use Rattle.std.specs.Prelude.{ℕ, ◌+◌, List, [], ◌∷◌, ◌++◌, length, take, drop, codes, Option}
 use Rattle.rb_base.specs.declared.faults.Field.{Field}
+use Rattle.rb_log_defs.specs.Types.{query_type, table_map_type, write_rows_type, update_rows_type}
 use Rattle.rb_log_defs.specs.Event.{header_bytes, query_payload}
 use Rattle.rb_log_defs.specs.Worked.{start_bytes, first_path_bytes}
 use Rattle.rb_read_defs.specs.Stream.{seen_of}
@@ -29,10 +30,10 @@ unplaced kind payload = header_bytes kind 1 (19 + length payload) 0 0 ++ payload
 
 -- a BEGIN event and a COMMIT event
 abbrev pub begin : List ℕ
-begin = unplaced 2 (query_payload (codes "BEGIN"))
+begin = unplaced query_type (query_payload (codes "BEGIN"))
 
 abbrev pub commit : List ℕ
-commit = unplaced 2 (query_payload (codes "COMMIT"))
+commit = unplaced query_type (query_payload (codes "COMMIT"))
 
 -- the event between these positions of the file, without the position after it
 abbrev pub again : (kind from until : ℕ) → List ℕ
@@ -52,18 +53,18 @@ changed from until at byte = between from at ++ (byte ∷ between (at + 1) until
 
 -- the map of table 1 with a LONG column after its key, and with a VARCHAR of at most 2 bytes
 abbrev pub narrow_map : List ℕ
-narrow_map = unplaced 19 (changed 234 254 251 3)
+narrow_map = unplaced table_map_type (changed 234 254 251 3)
 
 abbrev pub text_map : List ℕ
-text_map = unplaced 19 (between 234 251 ++ (15 ∷ 2 ∷ 2 ∷ 0 ∷ 0 ∷ []))
+text_map = unplaced table_map_type (between 234 251 ++ (15 ∷ 2 ∷ 2 ∷ 0 ∷ 0 ∷ []))
 
 -- an update of the worked example's first row to the row between these positions
 abbrev pub update_to : (from until : ℕ) → List ℕ
-update_to from until = unplaced 31 (between 334 355 ++ (3 ∷ between 355 372 ++ between from until))
+update_to from until = unplaced update_rows_type (between 334 355 ++ (3 ∷ between 355 372 ++ between from until))
 
 -- a write of a row of server 3 to the apply-status table
 abbrev pub other_status : List ℕ
-other_status = unplaced 30 (changed 273 315 286 3)
+other_status = unplaced write_rows_type (changed 273 315 286 3)
 
 -- the fault of the file up to this position, followed by these bytes
 abbrev pub fault_after : (position : ℕ) → (later : List ℕ) → Option (ℕ × Field)

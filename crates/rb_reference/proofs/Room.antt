@@ -7,7 +7,7 @@ use Rattle.rb_base.specs.declared.change.Change.{Change}
 use Rattle.rb_base.specs.declared.body.EpochBody.{EpochBody}
 use Rattle.rb_log_defs.specs.Event.{Placed, event_bytes, query_event, xid_event}
 use Rattle.rb_log_defs.specs.Table.{columns_of, status_table, table_map_event}
-use Rattle.rb_log_defs.specs.Rows.{rows_type, change_payload, end_flag, status_event}
+use Rattle.rb_log_defs.specs.Rows.{rows_type, change_payload, end_flag, ends_statement, status_event}
 use Rattle.rb_log_defs.specs.Epoch.{joined_from, change_events, epoch_bytes}
 use Rattle.rb_log_defs.specs.File.{Binlog, with_epoch}
 use Rattle.rb_log_defs.proofs.Joined.{joined_append}
@@ -25,7 +25,7 @@ epoch_fits site limit log body small =
 changes_within : (server : ℕ) (tables : List Mapped) (changes : List Change) (start : ℕ) → length changes ≤ length (joined_from start (change_events server tables changes))
 changes_within server tables [] start = omega arith
 changes_within server tables (change ∷ changes) start =
-    let payload : List ℕ = change_payload (columns_of tables change.table) change (end_flag changes) in
+    let payload : List ℕ = change_payload (columns_of tables change.table) change (end_flag (ends_statement changes)) in
     let kind : ℕ = rows_type change.kind in
     let next : ℕ = start + length (event_bytes kind server payload start) in
     omega (arith, length-append (event_bytes kind server payload start) (joined_from next (change_events server tables changes)), event_length kind server payload start, changes_within server tables changes next)

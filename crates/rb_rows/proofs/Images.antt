@@ -12,9 +12,8 @@ use Rattle.rb_base.specs.declared.schema.Column.{Column}
 use Rattle.rb_base.specs.declared.row.Value.{Value}
 use Rattle.rb_log_defs.specs.Table.{bitmap_size}
 use Rattle.rb_log_defs.specs.Event.{zeros}
-use Rattle.rb_log_defs.specs.Rows.{value_bytes, values_bytes, images_of, present_bitmap, present_bitmaps, rows_payload, transid_extra}
+use Rattle.rb_log_defs.specs.Rows.{value_bytes, values_bytes, images_of, present_bitmap, present_bitmaps, rows_payload, transid_extra, end_flag, rows_written}
 use Rattle.rb_log_defs.specs.Fits.{FitsColumn, FitsColumns}
-use Rattle.rb_rows.specs.Written.{flag_of, rows_written}
 
 -- a row that fits has a value for each column
 pub fits_same_length : (columns : List Column) (values : List Value) → FitsColumns columns values → length columns ≡ length values
@@ -66,11 +65,11 @@ two_bitmaps columns = omega (arith, length-append (present_bitmap columns) (pres
 
 -- the payload of one change
 pub one_change : (table : Mapped) (changes : List Change) (change : Change) (last : Bool) → length changes ≡ 1 → change ≡ get_or changes 0 change →
-    rows_written table changes last ≡ rows_payload table.id (flag_of last) (transid_extra change.transid) (length table.columns) (present_bitmaps change.kind (length table.columns)) (images_of change.kind table.columns change.before change.after)
+    rows_written table.id table.columns changes (end_flag last) ≡ rows_payload table.id (end_flag last) (transid_extra change.transid) (length table.columns) (present_bitmaps change.kind (length table.columns)) (images_of change.kind table.columns change.before change.after)
 one_change table [] change last one is = absurd (omega arith)
 one_change table (first ∷ []) change last one is =
-    subst (λ (c : Change). rows_written table (first ∷ []) last ≡ rows_payload table.id (flag_of last) (transid_extra c.transid) (length table.columns) (present_bitmaps c.kind (length table.columns)) (images_of c.kind table.columns c.before c.after)) (sym is)
-    (ap (rows_payload table.id (flag_of last) (transid_extra first.transid) (length table.columns) (present_bitmaps first.kind (length table.columns))) (append-nil (images_of first.kind table.columns first.before first.after)))
+    subst (λ (c : Change). rows_written table.id table.columns (first ∷ []) (end_flag last) ≡ rows_payload table.id (end_flag last) (transid_extra c.transid) (length table.columns) (present_bitmaps c.kind (length table.columns)) (images_of c.kind table.columns c.before c.after)) (sym is)
+    (ap (rows_payload table.id (end_flag last) (transid_extra first.transid) (length table.columns) (present_bitmaps first.kind (length table.columns))) (append-nil (images_of first.kind table.columns first.before first.after)))
 one_change table (first ∷ second ∷ later) change last one is = absurd (omega arith)
 
 pub payload_length : (table flags : ℕ) (extra : List ℕ) (columns : ℕ) (present rows : List ℕ) → length (rows_payload table flags extra columns present rows) ≡ 10 + length extra + length (length_bytes columns) + length present + length rows
@@ -84,7 +83,7 @@ length_one n few = grind (arith, common_steps)
 
 -- the length of the payload of one change
 pub one_length : (table : Mapped) (changes : List Change) (change : Change) (last : Bool) → length table.columns ≤ 64 → length changes ≡ 1 → change ≡ get_or changes 0 change →
-    length (rows_written table changes last) ≡ 20 + length (present_bitmaps change.kind (length table.columns)) + length (images_of change.kind table.columns change.before change.after)
+    length (rows_written table.id table.columns changes (end_flag last)) ≡ 20 + length (present_bitmaps change.kind (length table.columns)) + length (images_of change.kind table.columns change.before change.after)
 one_length table changes change last few one is =
     rw (one_change table changes change last one is)
-    (omega (arith, payload_length table.id (flag_of last) (transid_extra change.transid) (length table.columns) (present_bitmaps change.kind (length table.columns)) (images_of change.kind table.columns change.before change.after), length_one (length table.columns) (omega arith)))
+    (omega (arith, payload_length table.id (end_flag last) (transid_extra change.transid) (length table.columns) (present_bitmaps change.kind (length table.columns)) (images_of change.kind table.columns change.before change.after), length_one (length table.columns) (omega arith)))

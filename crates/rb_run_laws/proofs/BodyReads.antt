@@ -18,7 +18,7 @@ use Rattle.rb_base.specs.declared.body.EpochBody.{EpochBody}
 use Rattle.rb_journal_defs.proofs.Counts.{filter_length}
 use Rattle.rb_log_defs.specs.Event.{Placed, xid_event}
 use Rattle.rb_log_defs.specs.Table.{columns_of, table_map_payload, table_map_event, status_table}
-use Rattle.rb_log_defs.specs.Rows.{text_bytes, row_image, rows_payload, status_payload, end_flag}
+use Rattle.rb_log_defs.specs.Rows.{text_bytes, row_image, rows_payload, status_payload, end_flag, ends_statement}
 use Rattle.rb_log_defs.specs.Epoch.{change_events, epoch_bytes, epoch_events}
 use Rattle.rb_log_defs.specs.Fits.{Fits}
 use Rattle.rb_log_defs.proofs.Sizes.{event_length, query_length, xid_length}
@@ -106,7 +106,7 @@ maps_short (table ∷ tables) room = (omega (arith, map_bound 1 table 0 room.0.n
 changes_short : (tables : List Mapped) (changes : List Change) → AllByRecursion (λ change. Reads (columns_of tables change.table) change) changes → AllByRecursion IsShortEvent (change_events 1 tables changes)
 changes_short tables [] all = tt
 changes_short tables (change ∷ changes) all = (
-  omega (arith, change_bound 1 (columns_of tables change.table) change (end_flag changes) 0 all.0.short all.0.readable.fits),
+  omega (arith, change_bound 1 (columns_of tables change.table) change (end_flag (ends_statement changes)) 0 all.0.short all.0.readable.fits),
   changes_short tables changes all.1,
 )
 

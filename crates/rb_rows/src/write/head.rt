@@ -1,7 +1,6 @@
 ghost use Rattle.std.specs.Prelude.{◌≡◌, ◌+◌, ◌^◌, ◌-◌, ◌≤◌, ◌++◌, OnOk};
 ghost use Rattle.byteorder.specs.Endian.{little_bytes};
-ghost use Rattle.rb_log_defs.specs.Rows.{transid_extra, present_bitmap, present_bitmaps};
-ghost use Rattle.rb_rows.specs.Written.{flag_of};
+ghost use Rattle.rb_log_defs.specs.Rows.{end_flag, transid_extra, present_bitmap, present_bitmaps};
 
 use byteorder::{ByteOrder, LittleEndian};
 use rb_base::{Kind, NoMemory};
@@ -13,7 +12,7 @@ const TRANSID: u8 = 0x52;
 /// transaction's number.
 pub(crate) fn rows_head(table: u16, last: bool, transid: u64) -> [u8; 19]
     ensures { result ≡ little_bytes 6 table
-        ++ (little_bytes 2 (flag_of last) ++ (little_bytes 2 11 ++ transid_extra transid)) }
+        ++ (little_bytes 2 (end_flag last) ++ (little_bytes 2 11 ++ transid_extra transid)) }
 {
     let mut bytes = [0u8; 19];
     LittleEndian::write_u48(&mut bytes, table as u64);

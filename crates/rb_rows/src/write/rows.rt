@@ -1,6 +1,6 @@
 ghost use Rattle.std.specs.Prelude.{◌≡◌, ◌≤◌, [], ◌∷◌, ◌++◌, length, All, IfOk, OnOk, OnErr};
+ghost use Rattle.rb_log_defs.specs.Rows.{end_flag, rows_written};
 ghost use Rattle.rb_log_defs.specs.Fits.{Fits};
-ghost use Rattle.rb_rows.specs.Written.{rows_written};
 
 use crate::write::head::{rows_head, write_present};
 use crate::write::image::write_images;
@@ -22,7 +22,7 @@ pub fn write_rows(
     requires few { length table.now.columns ≤ 64 }
     requires fits { All (λ change. Fits table.now.columns change) changes.now }
     ensures ok { OnOk result (out.new.items ≡ out.old.items
-        ++ rows_written table.now changes.now last) }
+        ++ rows_written table.now.id table.now.columns changes.now (end_flag last)) }
     ensures err { OnErr result (out.new.items ≡ out.old.items) }
 {
     let payload = rows_payload(alloc, table, changes, last)?;
@@ -41,7 +41,8 @@ fn rows_payload(
     requires one { length changes.now ≡ 1 }
     requires few { length table.now.columns ≤ 64 }
     requires fits { All (λ change. Fits table.now.columns change) changes.now }
-    ensures { IfOk result (λ payload. payload.items ≡ rows_written table.now changes.now last) }
+    ensures { IfOk result (λ payload. payload.items
+        ≡ rows_written table.now.id table.now.columns changes.now (end_flag last)) }
 {
     let change = &changes[0];
     let columns = table.columns.as_slice();

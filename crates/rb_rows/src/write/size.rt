@@ -1,7 +1,6 @@
 ghost use Rattle.std.specs.Prelude.{◌≡◌, ◌≤◌, Bool, length, All};
-ghost use Rattle.rb_log_defs.specs.Rows.{present_bitmaps, value_bytes, values_bytes, image_of, images_of};
+ghost use Rattle.rb_log_defs.specs.Rows.{present_bitmaps, value_bytes, values_bytes, image_of, images_of, end_flag, rows_written, status_written};
 ghost use Rattle.rb_log_defs.specs.Fits.{Fits, FitsColumn, FitsColumns, IsImage};
-ghost use Rattle.rb_rows.specs.Written.{rows_written, status_written};
 
 use rb_base::{Change, Column, EpochBody, Kind, Mapped, Row, Value};
 
@@ -15,7 +14,8 @@ pub fn size_of_rows(table: &Mapped, changes: &[Change]) -> u64
     requires one { length changes.now ≡ 1 }
     requires few { length table.now.columns ≤ 64 }
     requires fits { All (λ change. Fits table.now.columns change) changes.now }
-    ensures size { (last : Bool) → result ≡ length (rows_written table.now changes.now last) }
+    ensures size { (last : Bool) → result ≡ length
+        (rows_written table.now.id table.now.columns changes.now (end_flag last)) }
     ensures most { result ≤ 8388788 }
 {
     let change = &changes[0];
@@ -41,7 +41,7 @@ fn presents_size(kind: Kind, columns: usize) -> u64
 /// primary's row.
 #[tactic(auto, unfolding(rb_log_defs::specs::Rows::rows_payload, rb_base::specs::Length::length_bytes, rb_log_defs::specs::Rows::row_image, rb_log_defs::specs::Rows::text_bytes))]
 pub fn size_of_status(body: &EpochBody) -> u64
-    ensures size { (last : Bool) → result ≡ length (status_written body.now last) }
+    ensures size { (last : Bool) → result ≡ length (status_written body.now (end_flag last)) }
     ensures most { result ≤ 72 }
 {
     match body.reflected {

@@ -1,7 +1,6 @@
 ghost use Rattle.std.specs.Prelude.{◌≡◌, ◌++◌, IfOk, OnOk, OnErr};
 ghost use Rattle.rb_log_defs.specs.Table.{status_columns};
-ghost use Rattle.rb_log_defs.specs.Rows.{row_image, status_row};
-ghost use Rattle.rb_rows.specs.Written.{flag_of, status_written};
+ghost use Rattle.rb_log_defs.specs.Rows.{row_image, status_row, end_flag, status_written};
 
 use crate::write::size::size_of_status;
 use byteorder::{ByteOrder, LittleEndian};
@@ -17,7 +16,8 @@ pub fn write_status(
     body: &EpochBody,
     last: bool,
 ) -> Result<(), NoMemory>
-    ensures ok { OnOk result (out.new.items ≡ out.old.items ++ status_written body.now last) }
+    ensures ok { OnOk result (out.new.items ≡ out.old.items
+        ++ status_written body.now (end_flag last)) }
     ensures err { OnErr result (out.new.items ≡ out.old.items) }
 {
     let payload = status_payload(alloc, body, last)?;
@@ -28,7 +28,7 @@ pub fn write_status(
 /// Returns that payload. It is built separately, so that `out` gets all of it or nothing.
 #[tactic(auto, unfolding(rb_log_defs::specs::Rows::rows_payload, rb_base::specs::Length::length_bytes))]
 fn status_payload(alloc: Global, body: &EpochBody, last: bool) -> Result<Vec<u8>, NoMemory>
-    ensures { IfOk result (λ payload. payload.items ≡ status_written body.now last) }
+    ensures { IfOk result (λ payload. payload.items ≡ status_written body.now (end_flag last)) }
 {
     let flag = if last { 1 } else { 0 };
     let mut payload = Vec::with_capacity(alloc, size_of_status(body) as usize)?;
