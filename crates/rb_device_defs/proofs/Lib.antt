@@ -1,3 +1,4 @@
 pub mod PrefixLaws
 pub mod ImageLaws
 pub mod RowLaws
+pub mod WorkedLaws

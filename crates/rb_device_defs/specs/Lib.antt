@@ -1,3 +1,4 @@
 pub mod Files
 pub mod Index
 pub mod Image
+pub mod Worked
