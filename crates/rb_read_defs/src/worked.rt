@@ -1,5 +1,6 @@
 ghost use Rattle.std.specs.Prelude.{◌≡◌, ◌++◌, [], ◌∷◌, take, drop, codes, Some, None};
 ghost use Rattle.rb_base.specs.declared.faults.Field.TheVariants as fields;
+ghost use Rattle.rb_log_defs.specs.Types.{format_type, xid_type, table_map_type, write_rows_type};
 ghost use Rattle.rb_log_defs.specs.Event.{zeros, header_bytes};
 ghost use Rattle.rb_log_defs.specs.Worked.{first_path, epoch_of_inserts, insert};
 ghost use Rattle.rb_read_defs.specs.Stream.{steps_of, seen_of, rest_of};
@@ -85,22 +86,22 @@ pub fn a_commit()
 /// An epoch may map a table again, and may have rows events without a row. It has at most one
 /// apply-status row of its own server and one of another.
 pub fn wider_epochs()
-    ensures mapped_twice { (seen_of 0 (up_to 254 (again 19 215 254 ++ again 30 254 315))).fault
-        ≡ None }
-    ensures no_row { (seen_of 0 (up_to 372 (unplaced 30 (drop 334 (take 355 first_file))))).fault
-        ≡ None }
-    ensures two_own_rows { (seen_of 0 (up_to 315 (again 30 254 315))).fault
+    ensures mapped_twice { fault_after 254
+        (again table_map_type 215 254 ++ again write_rows_type 254 315) ≡ None }
+    ensures no_row { fault_after 372
+        (unplaced write_rows_type (drop 334 (take 355 first_file))) ≡ None }
+    ensures two_own_rows { (seen_of 0 (up_to 315 (again write_rows_type 254 315))).fault
         ≡ Some (315, fields.Status) }
 {}
 
 /// The table maps of an epoch do not apply to the next one. BEGIN and a rotation are bad within an
 /// epoch; COMMIT and a table map are bad outside one. A query cannot be the first event.
 pub fn events_out_of_place()
-    ensures no_map { (seen_of 0 (first_file ++ (begin ++ again 30 372 429))).fault
+    ensures no_map { (seen_of 0 (first_file ++ (begin ++ again write_rows_type 372 429))).fault
         ≡ Some (494, fields.TableId) }
     ensures begin_twice { (seen_of 0 (up_to 429 begin)).fault ≡ Some (429, fields.Order) }
     ensures commit_outside { (seen_of 0 (first_file ++ commit)).fault ≡ Some (456, fields.Order) }
-    ensures map_outside { (seen_of 0 (first_file ++ again 19 215 254)).fault
+    ensures map_outside { (seen_of 0 (first_file ++ again table_map_type 215 254)).fault
         ≡ Some (456, fields.Order) }
     ensures rotation_inside { (seen_of 0 (up_to 429 rotation)).fault ≡ Some (429, fields.Order) }
     ensures query_first { (seen_of 4 begin).fault ≡ Some (4, fields.Order) }
@@ -109,9 +110,9 @@ pub fn events_out_of_place()
 /// If a payload ends within a field, or an XID event has bytes after its number, the fault is
 /// `EventSize`.
 pub fn wrong_sizes()
-    ensures long { (seen_of 0 (up_to 429 (unplaced 16 (zeros 9)))).fault
+    ensures long { (seen_of 0 (up_to 429 (unplaced xid_type (zeros 9)))).fault
         ≡ Some (429, fields.EventSize) }
-    ensures short { (seen_of 0 (up_to 429 (unplaced 16 (zeros 7)))).fault
+    ensures short { (seen_of 0 (up_to 429 (unplaced xid_type (zeros 7)))).fault
         ≡ Some (429, fields.EventSize) }
 {}
 
@@ -119,14 +120,17 @@ pub fn wrong_sizes()
 /// key, and no text is longer than its maximum. Extra data that does not begin with the byte `52`
 /// has no transaction number.
 pub fn rows_of_other_forms()
-    ensures last_map { fault_after 254 (narrow_map ++ (again 30 254 315 ++ again 30 315 372))
+    ensures last_map { fault_after 254 (narrow_map
+        ++ (again write_rows_type 254 315 ++ again write_rows_type 315 372))
         ≡ Some (354, fields.EventSize) }
     ensures one_key { fault_after 315 (update_to 355 372) ≡ None }
     ensures two_keys { fault_after 315 (update_to 412 429) ≡ Some (315, fields.Key) }
     ensures short_text { fault_after 215 (text_map
-        ++ (again 30 254 315 ++ unplaced 30 (between 334 364 ++ (2 ∷ 97 ∷ 97 ∷ [])))) ≡ None }
+        ++ (again write_rows_type 254 315
+        ++ unplaced write_rows_type (between 334 364 ++ (2 ∷ 97 ∷ 97 ∷ [])))) ≡ None }
     ensures long_text { fault_after 215 (text_map
-        ++ (again 30 254 315 ++ unplaced 30 (between 334 364 ++ (3 ∷ 97 ∷ 97 ∷ 97 ∷ []))))
+        ++ (again write_rows_type 254 315
+        ++ unplaced write_rows_type (between 334 364 ++ (3 ∷ 97 ∷ 97 ∷ 97 ∷ []))))
         ≡ Some (317, fields.Length) }
     ensures no_number { steps_of (seen_of 0 (changed 0 456 344 83)).known
         ≡ steps.Format ∷ steps.Epoch
@@ -144,16 +148,17 @@ pub fn rows_of_other_servers()
 /// length. Also the least number of post-header lengths of a format description.
 pub fn judged_by_the_header()
     ensures skipped_at_first { (seen_of 4 unplaced_event).fault ≡ Some (4, fields.Order) }
-    ensures end_outside { fault_after 456 (unplaced 16 (zeros 8)) ≡ Some (456, fields.Order) }
-    ensures rows_outside { fault_after 456 (again 30 372 429) ≡ Some (456, fields.Order) }
-    ensures format_inside { fault_after 429 (unplaced 15 (between 23 115))
+    ensures end_outside { fault_after 456 (unplaced xid_type (zeros 8)) ≡ Some (456, fields.Order) }
+    ensures rows_outside { fault_after 456 (again write_rows_type 372 429)
+        ≡ Some (456, fields.Order) }
+    ensures format_inside { fault_after 429 (unplaced format_type (between 23 115))
         ≡ Some (429, fields.Order) }
-    ensures end_after_rotation { fault_after 456 (rotation ++ unplaced 16 (zeros 8))
+    ensures end_after_rotation { fault_after 456 (rotation ++ unplaced xid_type (zeros 8))
         ≡ Some (495, fields.AfterRotate) }
-    ensures too_long { fault_after 429 (header_bytes 16 1 2147483648 0 0)
+    ensures too_long { fault_after 429 (header_bytes xid_type 1 2147483648 0 0)
         ≡ Some (429, fields.EventSize) }
-    ensures longest { fault_after 429 (header_bytes 16 1 2147483647 0 0) ≡ None }
-    ensures few_lengths { (seen_of 4 (unplaced 15 (between 23 111))).fault
+    ensures longest { fault_after 429 (header_bytes xid_type 1 2147483647 0 0) ≡ None }
+    ensures few_lengths { (seen_of 4 (unplaced format_type (between 23 111))).fault
         ≡ Some (4, fields.PostHeader) }
-    ensures fewest_lengths { (seen_of 4 (unplaced 15 (between 23 112))).fault ≡ None }
+    ensures fewest_lengths { (seen_of 4 (unplaced format_type (between 23 112))).fault ≡ None }
 {}
