@@ -1,4 +1,4 @@
-ghost use Rattle.std.specs.Prelude.{ℕ, ◌≡◌, ◌+◌, ◌^◌, ◌<◌, ◌≤◌, ◌++◌, length, map, drop, All, Err, IfOk, OnOk};
+ghost use Rattle.std.specs.Prelude.{ℕ, ◌≡◌, ◌+◌, ◌^◌, ◌<◌, ◌≤◌, ◌++◌, length, map, drop, All, Err, IfOk, OnOk, OnErr};
 ghost use Rattle.rb_log_defs.specs.Table.{table_map_event, columns_of};
 ghost use Rattle.rb_log_defs.specs.Rows.{ends_statement};
 ghost use Rattle.rb_log_defs.specs.Epoch.{joined_from, change_events, epoch_bytes};
@@ -36,13 +36,35 @@ pub fn encode_epoch(alloc: Global, body: &EpochBody, start: u32) -> Result<Vec<u
         return Err(EncodeFault::TooLarge(size));
     }
     let mut bytes = Vec::with_capacity(alloc, size as usize)?;
-    write_epoch(alloc, &mut bytes, body, start)?;
+    write_events(alloc, &mut bytes, body, start)?;
     Ok(bytes)
 }
 
 /// Appends an epoch to `out`, whose first byte is at `start`, in bytes from the start of the file.
-/// If memory allocation fails, the content of `out` is unspecified.
+/// If memory allocation fails, `out` is unchanged.
 pub fn write_epoch(
+    alloc: Global,
+    out: &mut Vec<u8>,
+    body: &EpochBody,
+    start: u32,
+) -> Result<(), NoMemory>
+    requires writable { CanBeWritten body.now }
+    requires fits { start + (length out.old.items + length
+        (epoch_bytes body.now (start + length out.old.items))) < 2 ^ 32 }
+    ensures ok { OnOk result (out.new.items ≡ out.old.items
+        ++ epoch_bytes body.now (start + length out.old.items)) }
+    ensures err { OnErr result (out.new.items ≡ out.old.items) }
+{
+    let at = position(start, out);
+    let mut bytes = Vec::new(alloc);
+    write_events(alloc, &mut bytes, body, at)?;
+    out.extend_from_slice(&bytes)?;
+    Ok(())
+}
+
+/// Appends the events of an epoch to `out`, whose first byte is at `start`. If memory allocation
+/// fails, the content of `out` is unspecified.
+fn write_events(
     alloc: Global,
     out: &mut Vec<u8>,
     body: &EpochBody,

@@ -6,7 +6,7 @@ use Rattle.rb_log_defs.specs.Epoch.{change_events}
 use Rattle.rb_log_defs.proofs.Sizes.{query_length, xid_length}
 use Rattle.rb_etx.proofs.Steps.{one_within, more_within}
 use Rattle.rb_etx.proofs.Whole.{after_begin, after_status_map, after_maps, after_status, after_changes, whole, whole_fits, at_start, left_1, left_2, left_3, left_4, left_5, none_left}
-use Rattle.rb_etx.proofs.epoch.write_epoch.Goals as goal
+use Rattle.rb_etx.proofs.epoch.write_events.Goals as goal
 
 pub write_query-requires : goal.write_query-requires
 write_query-requires c =
