@@ -8,6 +8,12 @@ use rb_base::{Change, Column, EpochBody, Kind, Mapped, Row, Value};
 /// the extra data, the extra data, and the number of columns.
 const HEAD_SIZE: u64 = 20;
 
+/// The length in bytes of the payload of one apply-status row.
+pub(crate) const ONE_ROW_SIZE: usize = 42;
+
+/// The length in bytes of the payload of two apply-status rows.
+pub(crate) const TWO_ROWS_SIZE: usize = 72;
+
 /// Returns the length in bytes of the payload that `write_rows` appends, which is at most 8388788.
 #[tactic(auto, using(crate::proofs::Images::one_length))]
 pub fn size_of_rows(table: &Mapped, changes: &[Change]) -> u64
@@ -45,8 +51,8 @@ pub fn size_of_status(body: &EpochBody) -> u64
     ensures most { result ≤ 72 }
 {
     match body.reflected {
-        None => 42,
-        Some(_) => 72,
+        None => ONE_ROW_SIZE as u64,
+        Some(_) => TWO_ROWS_SIZE as u64,
     }
 }
 

@@ -1,8 +1,10 @@
-ghost use Rattle.std.specs.Prelude.{◌≡◌, ◌++◌, IfOk, OnOk, OnErr};
+ghost use Rattle.std.specs.Prelude.{◌≡◌, [], ◌∷◌, ◌++◌, OnOk, OnErr};
+ghost use Rattle.byteorder.specs.Endian.{little_bytes};
+ghost use Rattle.rb_log_defs.specs.Event.{zeros};
 ghost use Rattle.rb_log_defs.specs.Table.{status_columns};
 ghost use Rattle.rb_log_defs.specs.Rows.{row_image, status_row, end_flag, status_written};
 
-use crate::write::size::size_of_status;
+use crate::write::size::{ONE_ROW_SIZE, TWO_ROWS_SIZE};
 use byteorder::{ByteOrder, LittleEndian};
 use rb_base::{EpochBody, NoMemory};
 use std::alloc::Global;
@@ -11,7 +13,7 @@ use std::alloc::Global;
 /// row if the epoch reflects one of the primary's epochs. `last` sets the flag that ends the
 /// statement. If memory allocation fails, `out` is unchanged.
 pub fn write_status(
-    alloc: Global,
+    _alloc: Global,
     out: &mut Vec<u8>,
     body: &EpochBody,
     last: bool,
@@ -20,24 +22,30 @@ pub fn write_status(
         ++ status_written body.now (end_flag last)) }
     ensures err { OnErr result (out.new.items ≡ out.old.items) }
 {
-    let payload = status_payload(alloc, body, last)?;
-    out.extend_from_slice(&payload)?;
+    let own = status_image(body.server, body.epoch.0);
+    match body.reflected {
+        None => {
+            out.reserve(ONE_ROW_SIZE)?;
+            out.extend_from_slice(&status_head(last))?;
+            out.extend_from_slice(&own)?;
+        }
+        Some(epoch) => {
+            out.reserve(TWO_ROWS_SIZE)?;
+            out.extend_from_slice(&status_head(last))?;
+            out.extend_from_slice(&own)?;
+            out.extend_from_slice(&status_image(1, epoch.0))?;
+        }
+    }
     Ok(())
 }
 
-/// Returns that payload. It is built separately, so that `out` gets all of it or nothing.
-#[tactic(auto, unfolding(rb_log_defs::specs::Rows::rows_payload, rb_base::specs::Length::length_bytes))]
-fn status_payload(alloc: Global, body: &EpochBody, last: bool) -> Result<Vec<u8>, NoMemory>
-    ensures { IfOk result (λ payload. payload.items ≡ status_written body.now (end_flag last)) }
+/// Returns the part of the payload before the rows: the table's id, the flags, the length of the
+/// extra data, the number of columns, and the present bitmap.
+fn status_head(last: bool) -> [u8; 12]
+    ensures { result ≡ zeros 6 ++ (little_bytes 2 (end_flag last) ++ (2 ∷ 0 ∷ 5 ∷ 31 ∷ [])) }
 {
     let flag = if last { 1 } else { 0 };
-    let mut payload = Vec::with_capacity(alloc, size_of_status(body) as usize)?;
-    payload.extend_from_slice(&[0, 0, 0, 0, 0, 0, flag, 0, 2, 0, 5, 0x1f])?;
-    payload.extend_from_slice(&status_image(body.server, body.epoch.0))?;
-    if let Some(epoch) = body.reflected {
-        payload.extend_from_slice(&status_image(1, epoch.0))?;
-    }
-    Ok(payload)
+    [0, 0, 0, 0, 0, 0, flag, 0, 2, 0, 5, 0x1f]
 }
 
 /// Returns the row image of a server and the last epoch of that server whose rows are applied.
