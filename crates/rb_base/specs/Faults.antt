@@ -13,8 +13,7 @@ pub record HasCause {T : Type 0} (before now : ℕ) (result : Result T Failed) :
   pub later : before ≤ now
   pub failed : IsErrOf result (record {}) → Rose before now
 
--- the same for a call whose object may also run out of memory, which leaves the count unchanged
+-- the same for a call whose object may also run out of memory
 pub record HasOutCause {T : Type 0} (before now : ℕ) (result : Result T OutFault) : Type 0 where
   pub later : before ≤ now
   pub failed : IsErrOf result faults.Failed → Rose before now
-  pub memory : IsErrOf result faults.NoMemory → now ≡ before

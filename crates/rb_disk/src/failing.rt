@@ -1,8 +1,9 @@
-ghost use Rattle.std.specs.Prelude.{◌≡◌, ◌≢◌, ◌<◌, ◌≤◌, ◌+◌, ◌-◌, ◌^◌, ◌↔◌, ℕ, [], min, length, take, slice_range, slice_index_or, IsErr, OnOk, OnErr, IsErrOf, IsTrue};
+ghost use Rattle.std.specs.Prelude.{◌≡◌, ◌≢◌, ◌<◌, ◌≤◌, ◌+◌, ◌-◌, ◌^◌, ◌↔◌, ℕ, [], min, length, take, slice_range, IsErr, OnOk, OnErr, IsErrOf, IsTrue};
 ghost use Rattle.std.specs.Bool.{OnTrue, OnFalse};
 ghost use Rattle.std.specs.List.{Contains};
 ghost use Rattle.rb_base.specs.Faults.{Rose, HasCause, HasOutCause};
 ghost use Rattle.rb_disk.specs.Disk.{Holds, Torn, CutShort};
+ghost use Rattle.rb_disk.specs.Memory.{file_of, file_count};
 
 use crate::device::LogDisk;
 use crate::memory::MemoryDisk;
@@ -48,7 +49,7 @@ impl FailingDisk {
 
     /// Returns the bytes of a file.
     pub fn file(&self, number: u32) -> &[u8]
-        ensures { result.now ≡ slice_index_or self.now.files number [] }
+        ensures { result.now ≡ file_of self.now.files number }
     {
         self.inner.file(number)
     }
@@ -73,13 +74,13 @@ fn fails_now(call: &mut u64, failing: &Numbers, faults: &mut u64) -> bool
 }
 
 impl LogDisk for FailingDisk {
-    ghost seen = { λ disk file. slice_index_or disk.files file [] };
+    ghost seen = { λ disk file. file_of disk.files file };
 
     ghost fault_count = { λ disk. disk.faults };
 
     fn files(&self) -> u32
-        ensures empty { (file : ℕ) → result ≤ file → slice_index_or self.now.files file [] ≡ [] }
-        ensures count { result ≡ length self.now.files }
+        ensures empty { (file : ℕ) → result ≤ file → file_of self.now.files file ≡ [] }
+        ensures count { result ≡ file_count self.now.files }
     {
         self.inner.files()
     }
@@ -89,9 +90,9 @@ impl LogDisk for FailingDisk {
     }
 
     fn read(&mut self, file: u32, at: u64, into: &mut [u8]) -> Result<(), Failed>
-        requires { at + length into.old ≤ length (slice_index_or self.old.files file []) }
+        requires { at + length into.old ≤ length (file_of self.old.files file) }
         ensures bytes { OnOk result (into.new
-            ≡ slice_range (slice_index_or self.old.files file []) at (at + length into.old)) }
+            ≡ slice_range (file_of self.old.files file) at (at + length into.old)) }
         ensures same { self.new.files ≡ self.old.files }
         ensures cause { HasCause self.old.faults self.new.faults result }
         ensures fails { IsErr result ↔ Contains self.old.failing self.old.call }
@@ -109,17 +110,17 @@ impl LogDisk for FailingDisk {
     }
 
     fn write_at(&mut self, file: u32, at: u64, bytes: &[u8]) -> Result<(), OutFault>
-        requires place { at ≤ length (slice_index_or self.old.files file []) }
+        requires place { at ≤ length (file_of self.old.files file) }
         requires number { file < 2 ^ 32 - 1 }
-        ensures written { OnOk result (Holds (slice_index_or self.old.files file []) at bytes.now
-            (slice_index_or self.new.files file [])) }
+        ensures written { OnOk result (Holds (file_of self.old.files file) at bytes.now
+            (file_of self.new.files file)) }
         ensures torn { IsErrOf result OutFault.Failed →
-            Torn at (length bytes.now) (slice_index_or self.old.files file [])
-            (slice_index_or self.new.files file []) }
+            Torn at (length bytes.now) (file_of self.old.files file)
+            (file_of self.new.files file) }
         ensures memory { IsErrOf result OutFault.NoMemory →
-            slice_index_or self.new.files file [] ≡ slice_index_or self.old.files file [] }
+            file_of self.new.files file ≡ file_of self.old.files file }
         ensures others { (other : ℕ) → other ≢ file →
-            slice_index_or self.new.files other [] ≡ slice_index_or self.old.files other [] }
+            file_of self.new.files other ≡ file_of self.old.files other }
         ensures cause { HasOutCause self.old.faults self.new.faults result }
         ensures fails { IsErrOf result OutFault.Failed ↔ Contains self.old.failing self.old.call }
         ensures nothing { IsErrOf result OutFault.Failed → self.new.files ≡ self.old.files }
@@ -128,6 +129,7 @@ impl LogDisk for FailingDisk {
         ensures faults { IsErrOf result OutFault.Failed →
             self.new.faults ≡ min (self.old.faults + 1) (2 ^ 64 - 1) }
         ensures no_fault { OnOk result (self.new.faults ≡ self.old.faults) }
+        ensures no_memory { IsErrOf result OutFault.NoMemory → self.new.faults ≡ self.old.faults }
     {
         if fails_now(&mut self.call, &self.failing, &mut self.faults) {
             return Err(OutFault::Failed);
@@ -138,16 +140,16 @@ impl LogDisk for FailingDisk {
 
     #[tactic(auto, using(crate::proofs::Unchanged::not_cut))]
     fn cut(&mut self, file: u32, len: u64) -> Result<(), OutFault>
-        requires { len ≤ length (slice_index_or self.old.files file []) }
-        ensures cut { OnOk result (slice_index_or self.new.files file []
-            ≡ take len (slice_index_or self.old.files file [])) }
+        requires { len ≤ length (file_of self.old.files file) }
+        ensures cut { OnOk result (file_of self.new.files file
+            ≡ take len (file_of self.old.files file)) }
         ensures short { IsErrOf result OutFault.Failed →
-            CutShort len (slice_index_or self.old.files file [])
-            (slice_index_or self.new.files file []) }
+            CutShort len (file_of self.old.files file)
+            (file_of self.new.files file) }
         ensures memory { IsErrOf result OutFault.NoMemory →
-            slice_index_or self.new.files file [] ≡ slice_index_or self.old.files file [] }
+            file_of self.new.files file ≡ file_of self.old.files file }
         ensures others { (other : ℕ) → other ≢ file →
-            slice_index_or self.new.files other [] ≡ slice_index_or self.old.files other [] }
+            file_of self.new.files other ≡ file_of self.old.files other }
         ensures cause { HasOutCause self.old.faults self.new.faults result }
         ensures fails { IsErrOf result OutFault.Failed ↔ Contains self.old.failing self.old.call }
         ensures nothing { IsErrOf result OutFault.Failed → self.new.files ≡ self.old.files }
@@ -156,6 +158,7 @@ impl LogDisk for FailingDisk {
         ensures faults { IsErrOf result OutFault.Failed →
             self.new.faults ≡ min (self.old.faults + 1) (2 ^ 64 - 1) }
         ensures no_fault { OnOk result (self.new.faults ≡ self.old.faults) }
+        ensures no_memory { IsErrOf result OutFault.NoMemory → self.new.faults ≡ self.old.faults }
     {
         if fails_now(&mut self.call, &self.failing, &mut self.faults) {
             return Err(OutFault::Failed);
@@ -173,6 +176,7 @@ impl LogDisk for FailingDisk {
         ensures faults { IsErrOf result OutFault.Failed →
             self.new.faults ≡ min (self.old.faults + 1) (2 ^ 64 - 1) }
         ensures no_fault { OnOk result (self.new.faults ≡ self.old.faults) }
+        ensures no_memory { IsErrOf result OutFault.NoMemory → self.new.faults ≡ self.old.faults }
     {
         if fails_now(&mut self.call, &self.failing, &mut self.faults) {
             return Err(OutFault::Failed);

@@ -1,6 +1,7 @@
 ghost use Rattle.std.specs.Prelude.{◌≡◌, ◌≢◌, ◌<◌, ◌≤◌, ◌+◌, ◌-◌, ◌^◌, ℕ, [], length, take, slice_range, slice_index_or, IsOk, OnOk, OnErr, IsErrOf};
 ghost use Rattle.rb_base.specs.Faults.{HasCause, HasOutCause};
 ghost use Rattle.rb_disk.specs.Disk.{Holds, Torn, CutShort};
+ghost use Rattle.rb_disk.specs.Memory.{file_of, file_count, no_files};
 
 use crate::device::LogDisk;
 use rb_base::{Failed, NoMemory, OutFault};
@@ -32,9 +33,10 @@ pub struct MemoryDisk {
 }
 
 impl Model for MemoryDisk {
-    ghost use Rattle.std.specs.Prelude.{ℕ, List, ◌<◌, ◌^◌, length};
+    ghost use Rattle.std.specs.Prelude.{◌<◌, ◌^◌, length};
+    ghost use Rattle.rb_disk.specs.Memory.{MemoryFiles};
 
-    ghost Value = { List (List ℕ) };
+    ghost Value = { MemoryFiles };
 
     ghost view = { λ disk. disk.files.items };
 
@@ -44,7 +46,7 @@ impl Model for MemoryDisk {
 impl MemoryDisk {
     /// Creates a device whose files are all empty.
     pub fn new(alloc: Global) -> MemoryDisk
-        ensures { result ≡ [] }
+        ensures { result ≡ no_files }
     {
         MemoryDisk {
             alloc,
@@ -54,7 +56,7 @@ impl MemoryDisk {
 
     /// Returns the bytes of a file.
     pub fn file(&self, number: u32) -> &[u8]
-        ensures { result.now ≡ slice_index_or self.now number [] }
+        ensures { result.now ≡ file_of self.now number }
     {
         match self.files.get(number as usize) {
             Some(file) => &file.held,
@@ -64,13 +66,13 @@ impl MemoryDisk {
 }
 
 impl LogDisk for MemoryDisk {
-    ghost seen = { λ disk file. slice_index_or disk file [] };
+    ghost seen = { λ disk file. file_of disk file };
 
     ghost fault_count = { λ _. 0 };
 
     fn files(&self) -> u32
-        ensures empty { (file : ℕ) → result ≤ file → slice_index_or self.now file [] ≡ [] }
-        ensures count { result ≡ length self.now }
+        ensures empty { (file : ℕ) → result ≤ file → file_of self.now file ≡ [] }
+        ensures count { result ≡ file_count self.now }
     {
         self.files.len() as u32
     }
@@ -80,9 +82,9 @@ impl LogDisk for MemoryDisk {
     }
 
     fn read(&mut self, file: u32, at: u64, into: &mut [u8]) -> Result<(), Failed>
-        requires { at + length into.old ≤ length (slice_index_or self.old file []) }
+        requires { at + length into.old ≤ length (file_of self.old file) }
         ensures bytes { OnOk result (into.new
-            ≡ slice_range (slice_index_or self.old file []) at (at + length into.old)) }
+            ≡ slice_range (file_of self.old file) at (at + length into.old)) }
         ensures same { self.new ≡ self.old }
         ensures cause { HasCause 0 0 result }
         ensures never_fails { IsOk result }
@@ -93,17 +95,17 @@ impl LogDisk for MemoryDisk {
     }
 
     fn write_at(&mut self, file: u32, at: u64, bytes: &[u8]) -> Result<(), OutFault>
-        requires place { at ≤ length (slice_index_or self.old file []) }
+        requires place { at ≤ length (file_of self.old file) }
         requires number { file < 2 ^ 32 - 1 }
-        ensures written { OnOk result (Holds (slice_index_or self.old file []) at bytes.now
-            (slice_index_or self.new file [])) }
+        ensures written { OnOk result (Holds (file_of self.old file) at bytes.now
+            (file_of self.new file)) }
         ensures torn { IsErrOf result OutFault.Failed →
-            Torn at (length bytes.now) (slice_index_or self.old file [])
-            (slice_index_or self.new file []) }
+            Torn at (length bytes.now) (file_of self.old file)
+            (file_of self.new file) }
         ensures memory { IsErrOf result OutFault.NoMemory →
-            slice_index_or self.new file [] ≡ slice_index_or self.old file [] }
+            file_of self.new file ≡ file_of self.old file }
         ensures others { (other : ℕ) → other ≢ file →
-            slice_index_or self.new other [] ≡ slice_index_or self.old other [] }
+            file_of self.new other ≡ file_of self.old other }
         ensures cause { HasOutCause 0 0 result }
         ensures never_fails { IsErrOf result OutFault.Failed → ⊥ }
     {
@@ -115,15 +117,15 @@ impl LogDisk for MemoryDisk {
     }
 
     fn cut(&mut self, file: u32, len: u64) -> Result<(), OutFault>
-        requires { len ≤ length (slice_index_or self.old file []) }
-        ensures cut { OnOk result (slice_index_or self.new file []
-            ≡ take len (slice_index_or self.old file [])) }
+        requires { len ≤ length (file_of self.old file) }
+        ensures cut { OnOk result (file_of self.new file
+            ≡ take len (file_of self.old file)) }
         ensures short { IsErrOf result OutFault.Failed →
-            CutShort len (slice_index_or self.old file []) (slice_index_or self.new file []) }
+            CutShort len (file_of self.old file) (file_of self.new file) }
         ensures memory { IsErrOf result OutFault.NoMemory →
-            slice_index_or self.new file [] ≡ slice_index_or self.old file [] }
+            file_of self.new file ≡ file_of self.old file }
         ensures others { (other : ℕ) → other ≢ file →
-            slice_index_or self.new other [] ≡ slice_index_or self.old other [] }
+            file_of self.new other ≡ file_of self.old other }
         ensures cause { HasOutCause 0 0 result }
         ensures never_fails { IsOk result }
     {
@@ -143,7 +145,9 @@ impl LogDisk for MemoryDisk {
         Ok(())
     }
 
-    fn faults(&self) -> u64 {
+    fn faults(&self) -> u64
+        ensures { result ≡ 0 }
+    {
         0
     }
 }

@@ -72,6 +72,7 @@ impl Sink for MemorySink {
         ensures faults { IsErrOf result OutFault.Failed →
             self.new.faults ≡ min (self.old.faults + 1) (2 ^ 64 - 1) }
         ensures no_fault { OnOk result (self.new.faults ≡ self.old.faults) }
+        ensures no_memory { IsErrOf result OutFault.NoMemory → self.new.faults ≡ self.old.faults }
     {
         let call = self.call;
         self.call = call.saturating_add(1);

@@ -16,8 +16,7 @@ pub trait Sink {
     /// Writes a prefix of `bytes` and returns its length, which is at least 1 if `bytes` is not
     /// empty.
     ///
-    /// On an error nothing was written. At `Failed` the count of faults has risen; at `NoMemory` it
-    /// is unchanged.
+    /// On an error nothing was written. At `Failed` the count of faults has risen.
     fn write(&mut self, bytes: &[u8]) -> Result<usize, OutFault>
         ensures bound { WritesAtMost result bytes.now }
         ensures some { IfOk result (λ n. 0 < length bytes.now → 0 < n) }

@@ -1,4 +1,7 @@
-ghost use Rattle.std.specs.Prelude.{◌≡◌};
+ghost use Rattle.std.specs.Prelude.{◌≡◌, ◌<◌, ◌+◌, ◌-◌, ◌^◌, min, length, IfOk, IsErrOf, OnOk, OnErr};
+ghost use Rattle.std.specs.Io.{ReadsAtMost, WritesAtMost};
+ghost use Rattle.std.specs.Io.KnownBytes.{ReadConsumes, WriteAppends};
+ghost use Rattle.rb_base.specs.Faults.{HasCause, HasOutCause};
 
 use crate::sink::Sink;
 use crate::source::Source;
@@ -29,7 +32,14 @@ impl<R: Read> Source for StdSource<R> {
 
     /// Calls the reader once. Any error of the reader, an interruption included, is returned as
     /// `Failed`.
-    fn read(&mut self, into: &mut [u8]) -> Result<usize, Failed> {
+    fn read(&mut self, into: &mut [u8]) -> Result<usize, Failed>
+        ensures bound { ReadsAtMost result into.new }
+        ensures bytes { ReadConsumes (R.remaining self.old.inner) (R.remaining self.new.inner)
+            result into.new }
+        ensures cause { HasCause self.old.faults self.new.faults result }
+        ensures faults { OnErr result (self.new.faults ≡ min (self.old.faults + 1) (2 ^ 64 - 1)) }
+        ensures no_fault { OnOk result (self.new.faults ≡ self.old.faults) }
+    {
         match self.inner.read(into) {
             Ok(count) => Ok(count),
             Err(_) => {
@@ -68,7 +78,16 @@ impl<W: Write> Sink for StdSink<W> {
 
     /// Calls the writer once. Returns `Failed` on any error of the writer, and also if the writer
     /// accepted none of a non-empty slice.
-    fn write(&mut self, bytes: &[u8]) -> Result<usize, OutFault> {
+    fn write(&mut self, bytes: &[u8]) -> Result<usize, OutFault>
+        ensures bound { WritesAtMost result bytes.now }
+        ensures some { IfOk result (λ n. 0 < length bytes.now → 0 < n) }
+        ensures bytes { WriteAppends (W.contents self.old.inner) (W.contents self.new.inner)
+            result bytes.now }
+        ensures cause { HasOutCause self.old.faults self.new.faults result }
+        ensures faults { OnErr result (self.new.faults ≡ min (self.old.faults + 1) (2 ^ 64 - 1)) }
+        ensures no_fault { OnOk result (self.new.faults ≡ self.old.faults) }
+        ensures never_out_of_memory { IsErrOf result OutFault.NoMemory → ⊥ }
+    {
         match self.inner.write(bytes) {
             Ok(count) if count > 0 || bytes.is_empty() => Ok(count),
             _ => {

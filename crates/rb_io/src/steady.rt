@@ -55,7 +55,9 @@ impl Source for SteadySource {
         Ok(count)
     }
 
-    fn faults(&self) -> u64 {
+    fn faults(&self) -> u64
+        ensures { result ≡ 0 }
+    {
         0
     }
 }
@@ -110,7 +112,9 @@ impl Sink for SteadySink {
         Ok(bytes.len())
     }
 
-    fn faults(&self) -> u64 {
+    fn faults(&self) -> u64
+        ensures { result ≡ 0 }
+    {
         0
     }
 }
