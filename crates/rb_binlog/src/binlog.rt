@@ -1,4 +1,4 @@
-ghost use Rattle.std.specs.Prelude.{◌≡◌, ◌≢◌, ◌≤◌, ◌<◌, ◌+◌, ◌-◌, ◌^◌, ◌++◌, ◌∷◌, ℕ, List, [], length, take, drop, nat_le, IfOk, OnOk, OnErr};
+ghost use Rattle.std.specs.Prelude.{◌≡◌, ◌≢◌, ◌≤◌, ◌<◌, ◌+◌, ◌-◌, ◌^◌, ◌++◌, ◌∷◌, ℕ, List, [], length, take, drop, nat_le, IfOk, OnOk, OnErr, false};
 ghost use Rattle.rb_base.specs.declared.site.SiteId.{SiteId};
 ghost use Rattle.rb_log_defs.specs.File.{Binlog, files_in, new_binlog, rotated_at};
 ghost use Rattle.rb_device_defs.specs.Files.{HoldsPrefix};
@@ -100,6 +100,7 @@ impl BinlogFiles {
             D.seen disk.new other ≡ D.seen disk.old other }
         ensures later { (other : ℕ) → number_of self.old + 1 < other →
             D.seen disk.new other ≡ D.seen disk.old other }
+        ensures untouched { IfOk result (λ rotated. rotated ≡ false → disk.new ≡ disk.old) }
         ensures cause { HasDiskCause (D.fault_count disk.old) (D.fault_count disk.new) result }
     {
         if u64::from(self.length) < limit {
