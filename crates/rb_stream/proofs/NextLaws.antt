@@ -21,6 +21,7 @@ use Rattle.rb_read_defs.proofs.Growing.{header_size, seen_later, seen_more}
 use Rattle.rb_stream.specs.Epoch.{IsOpen}
 use Rattle.rb_stream.specs.Fault.{fault_at}
 use Rattle.rb_stream.specs.Decoder.{StandsFor, Answers}
+use Rattle.rb_stream.specs.Ready.{IsReady}
 use Rattle.rb_stream.specs.Next.{GoesOn, StandsAt, IsAheadOf, Reads, Meets, GoesPast, Stays, EndsQuiet, AnswersAhead}
 use Rattle.rb_stream.specs.declared.fault.StreamFault.{StreamFault}
 use Rattle.rb_stream.specs.declared.fault.StreamFault.TheVariants as faults
@@ -167,27 +168,38 @@ seen_first position bytes piece passed (later, is) =
     let (more, all) = (seen_more position bytes piece).0 in
     (more ++ later, all ∙ ap (λ (events : List Known). more ++ events) is ∙ sym (append_assoc more later passed))
 
+-- what a decoder that is ready has decoded
+pub is_ahead : (decoder : Decoder) (position : ℕ) (bytes : List ℕ) (passed : List Known) → IsReady decoder position bytes passed → IsAheadOf decoder position bytes passed
+unfolding IsReady
+is_ahead decoder position bytes passed ready = ready
+
+-- a decoder that has decoded these events is ready
+pub is_ready : (decoder : Decoder) (position : ℕ) (bytes : List ℕ) (passed : List Known) → IsAheadOf decoder position bytes passed → IsReady decoder position bytes passed
+unfolding IsReady
+is_ready decoder position bytes passed ahead = ahead
+
 -- a decoder that was fed more bytes: only its bytes change
 pub fed_more : (before after : Decoder) (position : ℕ) (bytes piece : List ℕ) (passed : List Known) → after.unread ≡ before.unread ++ piece → after.at ≡ before.at → after.magic_due ≡ before.magic_due → after.rotated ≡ before.rotated → after.current ≡ before.current →
     after.counted ≡ before.counted → after.settled ≡ before.settled → StandsFor before position bytes passed → StandsFor after position (bytes ++ piece) passed
 fed_more before after position bytes piece passed unread at due rotated current counted settled stands =
     let fed : after.at + length after.unread ≡ position + length (bytes ++ piece) =
     (let l = ap length unread ∙ length-append before.unread piece in let m = length-append bytes piece in let f = stands.fed in omega arith) in
-    let all = stands.ahead.quiet ++ passed in record {
+    let ahead = is_ahead before position bytes passed stands.ready in
+    let all = ahead.quiet ++ passed in record {
       fed = fed;
       seen = seen_first position bytes piece passed stands.seen;
       settled = settled ∙ stands.settled;
-      ahead = record {
-        quiet = stands.ahead.quiet;
-        silent = stands.ahead.silent;
+      ready = is_ready after position (bytes ++ piece) passed (record {
+        quiet = ahead.quiet;
+        silent = ahead.silent;
         stands = record {
           fed = fed;
           on = subst (λ (b : Bool). GoesOn b position (bytes ++ piece) all after.at after.unread) (sym due)
-              (subst (λ (n : ℕ). GoesOn before.magic_due position (bytes ++ piece) all n after.unread) (sym at) (goes_on_more before.magic_due position bytes piece all before.at before.unread after.unread unread stands.ahead.stands.on));
-          counted = counted ∙ stands.ahead.stands.counted;
-          knows = record { rotated = rotated ∙ stands.ahead.stands.knows.rotated; current = subst (λ (o : Option OpenEpoch). IsOpen o (open_epoch all)) (sym current) stands.ahead.stands.knows.current };
+              (subst (λ (n : ℕ). GoesOn before.magic_due position (bytes ++ piece) all n after.unread) (sym at) (goes_on_more before.magic_due position bytes piece all before.at before.unread after.unread unread ahead.stands.on));
+          counted = counted ∙ ahead.stands.counted;
+          knows = record { rotated = rotated ∙ ahead.stands.knows.rotated; current = subst (λ (o : Option OpenEpoch). IsOpen o (open_epoch all)) (sym current) ahead.stands.knows.current };
         };
-      };
+      });
     }
 
 -- if the magic number comes next, nothing is decoded yet
@@ -321,7 +333,7 @@ counts before after position bytes known at unread due rotated current counted s
       fed = new.fed;
       seen = first_seen after position bytes known new;
       settled = settled ∙ stands.counted;
-      ahead = record { quiet = []; silent = refl; stands = new };
+      ready = is_ready after position bytes known (record { quiet = []; silent = refl; stands = new });
     }
 
 pub answers : (result : Result Step StreamFault) (before after : Decoder) (position : ℕ) (bytes : List ℕ) (passed : List Known) → (result ≡ Err faults.NoMemory → ⊥) → after.at ≡ before.at → after.unread ≡ before.unread → after.magic_due ≡ before.magic_due → after.rotated ≡ before.rotated → after.current ≡ before.current →
@@ -340,7 +352,7 @@ answers (Ok (steps.Rotate to name)) before after position bytes passed some at u
 
 -- if memory allocation fails, a decoder represents the same as before
 pub wants : (start after : Decoder) (position : ℕ) (bytes : List ℕ) (passed : List Known) → after.settled ≡ start.settled → StandsFor start position bytes passed → IsAheadOf after position bytes passed → StandsFor after position bytes passed
-wants start after position bytes passed settled stands ahead = record { fed = ahead.stands.fed; seen = stands.seen; settled = settled ∙ stands.settled; ahead = ahead }
+wants start after position bytes passed settled stands ahead = record { fed = ahead.stands.fed; seen = stands.seen; settled = settled ∙ stands.settled; ready = is_ready after position bytes passed ahead }
 
 -- an option that has no value is `None`
 pub none_of : {X : Type 0} (o : Option X) → ((x : X) → o ≡ Some x → ⊥) → o ≡ None

@@ -4,7 +4,7 @@ use Rattle.rb_base.specs.declared.faults.Field.{Field}
 use Rattle.rb_read_defs.specs.Stream.{Known, seen_of, steps_of, step_of, settled_at}
 use Rattle.rb_read_defs.specs.declared.answers.Step.{Step}
 use Rattle.rb_read_defs.specs.declared.answers.Step.TheVariants as steps
-use Rattle.rb_stream.specs.Next.{IsAheadOf}
+use Rattle.rb_stream.specs.Ready.{IsReady}
 use Rattle.rb_stream.specs.declared.fault.StreamFault.{StreamFault}
 use Rattle.rb_stream.specs.declared.fault.StreamFault.TheVariants as faults
 use Rattle.rb_stream.specs.declared.decoder.Decoder.{Decoder}
@@ -13,13 +13,23 @@ use Rattle.rb_stream.specs.declared.decoder.Decoder.{Decoder}
 abbrev pub fed_to : Decoder → ℕ
 fed_to decoder = decoder.at + length decoder.unread
 
+-- the end of the last event that a decoder counts as outside an open epoch
+abbrev pub settled_to : Decoder → ℕ
+settled_to decoder = decoder.settled
+
+-- these events, the newest first, are the first of these
+abbrev pub AreFirstOf : (passed all : List Known) → Type 0
+AreFirstOf passed all = (later : List Known) × (all ≡ later ++ passed)
+
 -- a decoder began at this position, was fed these bytes, and has returned the steps of these
--- events, the newest first; they are the first events that can be read of the bytes
+-- events, the newest first: the bytes fed so far are these; the events passed so far are the first
+-- of the log fed so far; the end that counts is that of the last event outside an open epoch; and
+-- the decoder is ready to go on
 pub record StandsFor (decoder : Decoder) (position : ℕ) (bytes : List ℕ) (passed : List Known) : Type 0 where
   pub fed : fed_to decoder ≡ position + length bytes
-  pub seen : (later : List Known) × ((seen_of position bytes).known ≡ later ++ passed)
-  pub settled : decoder.settled ≡ settled_at position passed
-  pub ahead : IsAheadOf decoder position bytes passed
+  pub seen : AreFirstOf passed (seen_of position bytes).known
+  pub settled : settled_to decoder ≡ settled_at position passed
+  pub ready : IsReady decoder position bytes passed
 
 -- a step that follows these events: some events give no step, and then an event gives this one
 pub record GivesStep (passed : List Known) (step : Step) (now : List Known) : Type 0 where
