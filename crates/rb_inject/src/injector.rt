@@ -40,7 +40,7 @@ impl Injector {
 
     /// Begins a log without an epoch on an empty device: first the index in file 0, then file 1.
     /// Binlog files are rotated when they reach `limit` bytes, 512 to 67108864. `NotEmpty` names
-    /// the lowest file that is not empty, and leaves the device unchanged.
+    /// the lowest file that is not empty, and does not touch the device.
     pub fn create<D: LogDisk>(
         alloc: Global,
         site: SiteId,
@@ -56,8 +56,7 @@ impl Injector {
             IsLowestFile file size (D.seen disk.old) }
         ensures refused { (file size : ℕ) → IsLowestFile file size (D.seen disk.old) →
             IsNotEmpty result }
-        ensures untouched { IsNotEmpty result → (file : ℕ) →
-            D.seen disk.new file ≡ D.seen disk.old file }
+        ensures untouched { IsNotEmpty result → disk.new ≡ disk.old }
         ensures no_size { IsTooLarge result → ⊥ }
         ensures stopped { OnErr result (((file : ℕ) → D.seen disk.old file ≡ []) →
             IsLogImage site limit [] (D.seen disk.new)) }
@@ -83,8 +82,8 @@ impl Injector {
     /// file is rotated if it has reached the limit; the result is `true`. Otherwise the device is
     /// not touched, and the result is `false`.
     ///
-    /// `TooLarge` gives the size of an epoch of more than 2147483647 bytes, and leaves the device
-    /// unchanged. After any fault the injector is gone, and `recover` recovers its log.
+    /// `TooLarge` gives the size of an epoch of more than 2147483647 bytes, and does not touch the
+    /// device. After any fault the injector is gone, and `recover` recovers its log.
     pub fn take<D: LogDisk>(
         self,
         assembled: Assembled,
@@ -106,11 +105,10 @@ impl Injector {
         ensures too_large { (size : ℕ) → result ≡ Err (InjectFault.TooLarge size) →
             (size ≡ length (epoch_bytes (body_for self assembled) 0)) × (2147483647 < size)
             × (has_something_to_log (body_for self assembled) ≡ true) }
-        ensures untouched { IsTooLarge result → (file : ℕ) →
-            D.seen disk.new file ≡ D.seen disk.old file }
+        ensures untouched { IsTooLarge result → disk.new ≡ disk.old }
         ensures begun { IsNotEmpty result → ⊥ }
-        ensures nothing { has_something_to_log (body_for self assembled) ≡ false → (file : ℕ) →
-            D.seen disk.new file ≡ D.seen disk.old file }
+        ensures nothing { has_something_to_log (body_for self assembled) ≡ false →
+            disk.new ≡ disk.old }
         ensures stopped { OnErr result ((setup : LogSetup) (bodies : List EpochBody) →
             StandsFor self setup bodies (D.seen disk.old) →
             LeavesImage setup bodies (body_of_assembled setup.site setup.tables assembled)
@@ -211,8 +209,7 @@ impl Injector {
         ensures size { OnOk result (length (epoch_bytes body.now 0) ≤ 2147483647) }
         ensures too_large { (size : ℕ) → result ≡ Err (InjectFault.TooLarge size) →
             (size ≡ length (epoch_bytes body.now 0)) × (2147483647 < size) }
-        ensures untouched { IsTooLarge result → (file : ℕ) →
-            D.seen disk.new file ≡ D.seen disk.old file }
+        ensures untouched { IsTooLarge result → disk.new ≡ disk.old }
         ensures begun { IsNotEmpty result → ⊥ }
         ensures stopped { OnErr result ((setup : LogSetup) (bodies : List EpochBody) →
             StandsFor self.old setup bodies (D.seen disk.old) →

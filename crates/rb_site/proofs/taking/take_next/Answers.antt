@@ -65,11 +65,11 @@ returns-in-Err-DiskFault-clause-part g c = λ shape run held.
     let seen = g.D.LogDisk.seen c.args.disk.now in
     next_failed shape c.args.events.now c.args.injector seen (g.D.LogDisk.seen c.take.new.disk) run c.in-Some.assembled held
     (next_there shape c.args.events.now c.args.injector seen run c.in-Some.assembled held (λ fed stands chained. c.in-Some.ensures.answer fed stands chained))
-    (λ none file. c.take.ensures.nothing none file) (c.in-Err-DiskFault.ensures.stopped (setup_of shape c.args.injector) (written_bodies shape run) held.log)
+    (λ none file. ap (λ disk. g.D.LogDisk.seen disk file) (c.take.ensures.nothing none)) (c.in-Err-DiskFault.ensures.stopped (setup_of shape c.args.injector) (written_bodies shape run) held.log)
 
 pub returns-in-Err-NoMemory-clause-part : goal.returns-in-Err-NoMemory-clause-part
 returns-in-Err-NoMemory-clause-part g c = λ shape run held.
     let seen = g.D.LogDisk.seen c.args.disk.now in
     next_failed shape c.args.events.now c.args.injector seen (g.D.LogDisk.seen c.take.new.disk) run c.in-Some.assembled held
     (next_there shape c.args.events.now c.args.injector seen run c.in-Some.assembled held (λ fed stands chained. c.in-Some.ensures.answer fed stands chained))
-    (λ none file. c.take.ensures.nothing none file) (c.in-Err-NoMemory.ensures.stopped (setup_of shape c.args.injector) (written_bodies shape run) held.log)
+    (λ none file. ap (λ disk. g.D.LogDisk.seen disk file) (c.take.ensures.nothing none)) (c.in-Err-NoMemory.ensures.stopped (setup_of shape c.args.injector) (written_bodies shape run) held.log)
