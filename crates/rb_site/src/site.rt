@@ -94,8 +94,7 @@ impl Site {
             IsLowestFile file size (D.seen disk.old) }
         ensures refused { (file size : ℕ) → IsLowestFile file size (D.seen disk.old) →
             IsNotEmpty result }
-        ensures untouched { IsNotEmpty result → (file : ℕ) →
-            D.seen disk.new file ≡ D.seen disk.old file }
+        ensures untouched { IsNotEmpty result → disk.new ≡ disk.old }
         ensures no_size { IsTooLarge result → ⊥ }
         ensures stopped { OnErr result (((file : ℕ) → D.seen disk.old file ≡ []) →
             IsLogImage A setup.limit [] (D.seen disk.new)) }
@@ -128,6 +127,7 @@ impl Site {
             IsSite shape self (D.seen disk.old) run →
             HoldsUnfinishedLog (limit_of self) run.written
             (written_bodies shape (site_step shape run event.now).run) (D.seen disk.new) }
+        ensures untouched { uses_device event.now ≡ false → disk.new ≡ disk.old }
         ensures cause { HasStepCause (D.fault_count disk.old) (D.fault_count disk.new) result }
     {
         match event {
