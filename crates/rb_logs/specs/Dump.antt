@@ -1,5 +1,5 @@
 -- The files of a site as text: each file's name and length, and its bytes in hexadecimal.
-use Rattle.std.specs.Prelude.{ℕ, zero, suc, ◌*◌, List, [], ◌∷◌, ◌++◌, length, take, drop, slice_index_or, codes}
+use Rattle.std.specs.Prelude.{ℕ, zero, suc, ◌*◌, List, [], ◌∷◌, ◌++◌, length, take, drop, codes}
 use Rattle.std.specs.Int.{div_ceil}
 use Rattle.std.specs.List.{concat, flat_map}
 use Rattle.byteorder.specs.Endian.{big_bytes}
@@ -7,6 +7,7 @@ use Rattle.hex.specs.Hex.{encode_lower}
 use Rattle.rb_base.specs.declared.site.SiteId.{SiteId}
 use Rattle.rb_base.specs.declared.site.SiteId.TheVariants.{A, B}
 use Rattle.rb_log_defs.specs.File.{file_name}
+use Rattle.rb_disk.specs.Memory.{MemoryFiles, file_of, file_count}
 use Rattle.rb_journal_defs.specs.Body.{numbers_below}
 use Rattle.rb_text_defs.specs.Report.{labelled, letter_of}
 
@@ -39,9 +40,9 @@ file_text site number [] = []
 file_text site number (byte ∷ bytes) = heading site number (length (byte ∷ bytes)) ++ bytes_text (byte ∷ bytes)
 
 -- the files of a site, file 0 first
-abbrev pub site_text : SiteId → List (List ℕ) → List ℕ
-site_text site files = flat_map (λ number. file_text site number (slice_index_or files number [])) (numbers_below (length files))
+abbrev pub site_text : SiteId → MemoryFiles → List ℕ
+site_text site disk = flat_map (λ number. file_text site number (file_of disk number)) (numbers_below (file_count disk))
 
 -- the files of both sites
-abbrev pub dump_text : (files_a files_b : List (List ℕ)) → List ℕ
-dump_text files_a files_b = site_text A files_a ++ site_text B files_b
+abbrev pub dump_text : (disk_a disk_b : MemoryFiles) → List ℕ
+dump_text disk_a disk_b = site_text A disk_a ++ site_text B disk_b
