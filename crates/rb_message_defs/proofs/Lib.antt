@@ -2,3 +2,4 @@ pub mod Messages
 pub mod Chained
 pub mod Assembly
 pub mod Again
+pub mod Numbers

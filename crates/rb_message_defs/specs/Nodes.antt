@@ -8,6 +8,7 @@ use Rattle.rb_base.specs.declared.message.Message.TheVariants.{Part}
 use Rattle.rb_base.specs.declared.message.Sent.{Sent}
 use Rattle.rb_journal_defs.specs.Journal.{Journal, closed_epochs}
 use Rattle.rb_journal_defs.specs.Body.{Shape, part_of, numbers_below}
+use Rattle.rb_journal_defs.specs.Clock.{first_epoch}
 use Rattle.rb_message_defs.specs.Message.{done_message, home_node}
 
 -- a node: whether it is up, the number from which on it buffers epochs, and how many messages the
@@ -30,6 +31,15 @@ pub record Nodes : Type 0 where
   pub replicas : ℕ
   pub nodes : List Node
   pub owners : List ℕ
+
+-- the nodes of a new site, `groups` groups of `replicas` nodes: all are up, and each owns the
+-- bucket with its number
+abbrev pub nodes_at_first : (groups replicas : ℕ) → Nodes
+nodes_at_first groups replicas = record {
+  replicas = replicas;
+  nodes = map (λ number. node_from first_epoch) (numbers_below (groups * replicas));
+  owners = numbers_below (groups * replicas);
+}
 
 -- the node with this number
 abbrev pub node_at : Nodes → (number : ℕ) → Node

@@ -24,12 +24,13 @@ use Rattle.rb_journal_defs.proofs.Bodies.{if_logged, completed_client, completed
 use Rattle.rb_journal_defs.specs.Order.{InOrder, IsClosed}
 use Rattle.rb_journal_defs.proofs.Order.{Rises, closed_rise, opened_above, upto, Among, closed_among}
 use Rattle.rb_message_defs.specs.Message.{home_node}
-use Rattle.rb_message_defs.proofs.Messages.{all_joined, get_end, get_left}
-use Rattle.rb_message_defs.specs.Nodes.{Node, node_from, down, Nodes, node_at, owner_in, needed_epoch, covers, others_after, successor_of, with_node, with_failure, with_restart, with_owner, returns, with_returns, numbers_in, group_of, buffered, messages_of, part_messages, unacknowledged}
-use Rattle.rb_play_defs.specs.Step.{Progress, nodes_at_first, beginning, acknowledged_epoch, needed_of, last_epoch, written_bodies, worth_logging, unchanged, refused, rows_of, tx_changes, committed, commit_outcome, tx_step, only_closed, closed, close_step, fed_by, delivered_message, answer_outcome, deliver_step, undelivered, after_delivery, all_delivered, delivery_of_all, deliver_all_step, takeover_step, loss_step, fail_step, restart_step, resend_step, injector_step, unless_lost, StepResult, takeable, with_taken, injected, injection_of, inject_step, site_step}
+use Rattle.rb_message_defs.proofs.Messages.{all_joined}
+use Rattle.rb_message_defs.proofs.Numbers.{number_at, numbered_get, found_in}
+use Rattle.rb_message_defs.specs.Nodes.{Node, node_from, down, Nodes, nodes_at_first, node_at, owner_in, needed_epoch, covers, others_after, successor_of, with_node, with_failure, with_restart, with_owner, returns, with_returns, numbers_in, group_of, buffered, messages_of, part_messages, unacknowledged}
+use Rattle.rb_play_defs.specs.Step.{Progress, beginning, acknowledged_epoch, needed_of, last_epoch, written_bodies, worth_logging, unchanged, refused, rows_of, tx_changes, committed, commit_outcome, tx_step, only_closed, closed, close_step, fed_by, delivered_message, answer_outcome, deliver_step, undelivered, after_delivery, all_delivered, delivery_of_all, deliver_all_step, takeover_step, loss_step, fail_step, restart_step, resend_step, injector_step, unless_lost, StepResult, takeable, with_taken, injected, injection_of, inject_step, site_step}
 use Rattle.rb_play_defs.specs.Play.{shape_of, log_step, event_step, Played, played_on, not_played, play_of}
 use Rattle.rb_play_defs.specs.Sound.{IsSound, CanSendAgain}
-use Rattle.rb_play_defs.proofs.Sounds.{closed_all_below, length_numbers, sound_beginning}
+use Rattle.rb_play_defs.proofs.Sounds.{closed_all_below, sound_beginning}
 use Rattle.rb_play_defs.proofs.Restarts.{acknowledged_is}
 use Rattle.rb_play_defs.proofs.Takes.{prefix_of, sound_taken, takeable_rest, injected_more, injected_end, written_more}
 use Rattle.rb_play_defs.proofs.Fits.{all_filtered}
@@ -114,12 +115,6 @@ covers_more a b node more is =
     and_true true false is also = also
     and_true false y is also = is
 
--- an item of a list whose items are mapped with their places
-pub numbered_get : {X : Type 0} (f : ℕ × X → X) (n k : ℕ) (xs : List X) → slice_get (map f (enumerate_from n xs)) k ≡ option_map (λ x. f (n + k, x)) (slice_get xs k)
-numbered_get f n k [] = refl
-numbered_get f n zero (x ∷ xs) = ap (λ (m : ℕ). Some (f (m, x))) (let same : n ≡ n + zero = omega arith in same)
-numbered_get f n (suc k) (x ∷ xs) = numbered_get f (n + 1) k xs ∙ ap (λ (m : ℕ). option_map (λ x. f (m, x)) (slice_get xs k)) (let same : n + 1 + k ≡ n + suc k = omega arith in same)
-
 -- a change of one node leaves the other nodes unchanged
 other_node : (number other : ℕ) (node : Node) (site : Nodes) → (other ≡ number → ⊥) → node_at (with_node number node site) other ≡ node_at site other
 other_node number other node site differs =
@@ -146,15 +141,6 @@ covered_restart buckets needed number opened site is_down all bucket within =
     not_both same =
         let up : (node_at site number).up ≡ true = ap (λ (k : ℕ). (node_at site k).up) (sym same) ∙ (and_parts (node_at site (owner_in site bucket)).up _ (all bucket within)).0 in
         let both : false ≡ true = sym is_down ∙ up in absurd cc
-
--- an item that a search finds has the facts of all items and passes the test
-pub found_in : (P : ℕ → Type 0) (test : ℕ → Bool) (x : ℕ) (xs : List ℕ) → AllByRecursion P xs → find test xs ≡ Some x → P x × (test x ≡ true)
-found_in P test x [] all is = absurd cc
-found_in P test x (y ∷ xs) all is = go (test y) refl is (λ later. found_in P test x xs all.1 later)
-  where
-    go : (b : Bool) → test y ≡ b → (if b then Some y else find test xs) ≡ Some x → (find test xs ≡ Some x → P x × (test x ≡ true)) → P x × (test x ≡ true)
-    go true passes is rest = let same : y ≡ x = cc in (subst P same all.0, subst (λ (z : ℕ). test z ≡ true) same passes)
-    go false passes is rest = rest is
 
 passing : (P : ℕ → Type 0) (test : ℕ → Bool) (xs : List ℕ) → ((x : ℕ) → test x ≡ true → P x) → AllByRecursion P (filter test xs)
 passing P test [] f = tt
@@ -236,18 +222,6 @@ written_at_close : (shape : Shape) (gci : Bool) (run : Progress) → IsSound sha
 written_at_close shape gci run sound =
     ap (take run.written) (completed_closed shape run.opened run.journal)
     ∙ take-append-le run.written (completed_bodies shape run.journal) (if_logged (body_of shape run.opened run.journal)) (written_within shape run sound)
-
--- each number below `n` is at its place
-pub number_at : (n k : ℕ) → k < n → slice_get (numbers_below n) k ≡ Some k
-number_at zero k within = absurd (omega arith)
-number_at (suc n) k within = go (k == n) refl (λ below. number_at n k below)
-  where
-    go : (b : Bool) → (k == n) ≡ b → (k < n → slice_get (numbers_below n) k ≡ Some k) → slice_get (numbers_below n ++ n ∷ []) k ≡ Some k
-    go true is below =
-        let same : k ≡ n = eqb-true k n is in
-        let count : length (numbers_below n) ≡ k = length_numbers n ∙ sym same in
-        ap (slice_get (numbers_below n ++ n ∷ [])) (sym count) ∙ get_end (numbers_below n) n [] ∙ ap (λ (m : ℕ). Some m) (sym same)
-    go false is below = get_left (numbers_below n) (n ∷ []) k k (below (let differs = eqb-false k n is in omega arith))
 
 -- a new site
 pub covered_beginning : (shape : Shape) (groups replicas : ℕ) → shape.buckets ≡ groups * replicas → IsCovered shape (beginning groups replicas)

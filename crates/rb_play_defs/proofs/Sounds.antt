@@ -17,10 +17,11 @@ use Rattle.rb_journal_defs.specs.Clock.{epoch_after}
 use Rattle.rb_journal_defs.proofs.Bodies.{body_of_other, body_of_closed}
 use Rattle.rb_journal_defs.proofs.Order.{Rises, closed_rise, opened_above, closed_below, upto, upto_closed}
 use Rattle.rb_message_defs.specs.Message.{IsMessageOf, done_message, sent_by}
-use Rattle.rb_message_defs.specs.Nodes.{Node, Nodes, node_at, owner_in, unacknowledged, group_of, successor_of, owned_by, with_node, with_failure, with_restart, with_owner, returns, with_returns, numbers_in}
+use Rattle.rb_message_defs.specs.Nodes.{Node, Nodes, nodes_at_first, node_at, owner_in, unacknowledged, group_of, successor_of, owned_by, with_node, with_failure, with_restart, with_owner, returns, with_returns, numbers_in}
 use Rattle.rb_message_defs.proofs.Messages.{all_more, all_joined, all_mapped, all_below, stays_at_commit, stays_at_close, previous_stays, part_of_close, parts_are_messages}
 use Rattle.rb_message_defs.proofs.Again.{all_flat, again_is_own, sent_from_own}
-use Rattle.rb_play_defs.specs.Step.{Progress, nodes_at_first, beginning, unchanged, tx_changes, tx_messages, committed, acknowledged_epoch, needed_of, sent_again, only_closed, sent_at_close, closed, taken_over, takeover_step, loss_step, fail_step, restart_step, resend_step, worth_logging}
+use Rattle.rb_message_defs.proofs.Numbers.{length_numbers}
+use Rattle.rb_play_defs.specs.Step.{Progress, beginning, unchanged, tx_changes, tx_messages, committed, acknowledged_epoch, needed_of, sent_again, only_closed, sent_at_close, closed, taken_over, takeover_step, loss_step, fail_step, restart_step, resend_step, worth_logging}
 use Rattle.rb_play_defs.specs.Sound.{IsOwn, AreNodes, IsSound}
 
 gci_rises : (epoch : ℕ) → epoch < epoch_after true epoch
@@ -35,10 +36,6 @@ epoch_rises true epoch = gci_rises epoch
 own_sent : (shape : Shape) (j : Journal) (owner : ℕ → ℕ) (ms : List Message) → AllByRecursion (IsOwn shape j) ms → AllByRecursion (λ (s : Sent). IsOwn shape j s.message) (map (sent_by owner) ms)
 own_sent shape j owner [] all = tt
 own_sent shape j owner (m ∷ ms) all = (all.0, own_sent shape j owner ms all.1)
-
-pub length_numbers : (n : ℕ) → length (numbers_below n) ≡ n
-length_numbers zero = refl
-length_numbers (suc n) = let more = length-append (numbers_below n) (n ∷ []) in let same = length_numbers n in omega arith
 
 -- the Done of a bucket is a message of the journal after the close
 done_is_own : (shape : Shape) (o bucket : ℕ) (j : Journal) → bucket < shape.buckets → IsOwn shape (Closed o ∷ j) (done_message shape o bucket j)

@@ -19,7 +19,7 @@ use Rattle.rb_message_defs.specs.declared.answers.Received.{Received}
 use Rattle.rb_message_defs.specs.declared.answers.Received.TheVariants as answers
 use Rattle.rb_message_defs.specs.declared.answers.Missing.{Missing}
 use Rattle.rb_message_defs.specs.Message.{parts_sent, done_message, sent_by}
-use Rattle.rb_message_defs.specs.Nodes.{Nodes, node_from, node_at, owner_in, needed_epoch, unacknowledged, sent_from, group_of, successor_of, owned_by, with_failure, with_restart, with_owner, returns, with_returns, numbers_in, waiting_places}
+use Rattle.rb_message_defs.specs.Nodes.{Nodes, nodes_at_first, node_at, owner_in, needed_epoch, unacknowledged, sent_from, group_of, successor_of, owned_by, with_failure, with_restart, with_owner, returns, with_returns, numbers_in, waiting_places}
 use Rattle.rb_message_defs.specs.Received.{Fed, answer_to, missing_of}
 use Rattle.rb_message_defs.specs.Taken.{taken_epochs}
 use Rattle.rb_play_defs.specs.declared.event.SiteEvent.{SiteEvent}
@@ -41,15 +41,6 @@ pub record Progress : Type 0 where
   pub written : ℕ
   pub nodes : Nodes
   pub lost : Option (ℕ × ℕ)
-
--- the nodes of a new site, `groups` groups of `replicas` nodes: all are up, and each owns the
--- bucket with its number
-abbrev pub nodes_at_first : (groups replicas : ℕ) → Nodes
-nodes_at_first groups replicas = record {
-  replicas = replicas;
-  nodes = map (λ number. node_from first_epoch) (numbers_below (groups * replicas));
-  owners = numbers_below (groups * replicas);
-}
 
 -- the state of a new site
 abbrev pub beginning : (groups replicas : ℕ) → Progress

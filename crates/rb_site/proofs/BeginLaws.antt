@@ -16,8 +16,8 @@ use Rattle.rb_device_defs.specs.Image.{IsLogImage}
 use Rattle.rb_device_defs.proofs.ImageLaws.{image_of_none}
 use Rattle.rb_inject.specs.Injector as inject
 use Rattle.rb_inject.specs.Injector.{IsLogSetup}
-use Rattle.rb_message_defs.specs.Nodes.{node_from, down}
-use Rattle.rb_play_defs.specs.Step.{nodes_at_first, beginning, failed_in}
+use Rattle.rb_message_defs.specs.Nodes.{node_from, nodes_at_first, down}
+use Rattle.rb_play_defs.specs.Step.{beginning, failed_in}
 use Rattle.rb_play_defs.proofs.Sounds.{sound_beginning}
 use Rattle.rb_play_defs.proofs.Covering.{covered_beginning}
 use Rattle.rb_site.specs.Nodes.{nothing_done, HoldsNodes}

@@ -13,7 +13,7 @@ use Rattle.rb_journal_defs.proofs.Order.{lt_or_le}
 use Rattle.rb_message_defs.specs.Message.{home_node}
 use Rattle.rb_message_defs.specs.Nodes as members
 use Rattle.rb_message_defs.specs.Nodes.{Node, down, node_at, owner_in, numbers_in, successor_of, owned_by, covers, with_node, with_owner, with_returns, returns}
-use Rattle.rb_play_defs.proofs.Covering.{number_at, numbered_get}
+use Rattle.rb_message_defs.proofs.Numbers.{number_at, numbered_get}
 use Rattle.rb_group.specs.Kept as group
 use Rattle.rb_group.specs.Kept.{Kept, with_since, owned_in, successor_in, covers_in}
 use Rattle.rb_group.specs.Group.{Keeps, IsNumberOf}

@@ -6,13 +6,11 @@ use Rattle.std.proofs.lemmas.List.{map-append, length-map}
 use Rattle.rb_journal_defs.specs.Body.{in_bucket, numbers_below}
 use Rattle.rb_journal_defs.specs.Clock.{first_epoch}
 use Rattle.rb_message_defs.specs.Message.{home_node}
-use Rattle.rb_message_defs.specs.Nodes.{Node, down, node_from, node_at, owner_in}
+use Rattle.rb_message_defs.specs.Nodes.{Node, down, node_from, nodes_at_first, node_at, owner_in}
 use Rattle.rb_group.specs.Kept.{Kept, new_group}
 use Rattle.rb_group.specs.Group.{Keeps}
 use Rattle.rb_group.specs.declared.group.Group.{Group}
-use Rattle.rb_play_defs.specs.Step.{nodes_at_first}
-use Rattle.rb_play_defs.proofs.Covering.{number_at}
-use Rattle.rb_play_defs.proofs.Sounds.{length_numbers}
+use Rattle.rb_message_defs.proofs.Numbers.{number_at, length_numbers}
 use Rattle.rb_site.specs.Nodes.{Buffered, since_of, kept_in, nothing_done, share_of, GroupHolds, GroupsHold, HoldsNodes}
 use Rattle.rb_site.specs.declared.nodes.Nodes.{Nodes}
 use Rattle.rb_site.proofs.ShareLaws.{keeps_same, get_map}

@@ -16,7 +16,7 @@ use Rattle.rb_journal_defs.specs.Body.{in_bucket, numbers_below}
 use Rattle.rb_journal_defs.proofs.Counts.{filter_length}
 use Rattle.rb_message_defs.specs.Message.{part_message, sent_by}
 use Rattle.rb_message_defs.specs.Nodes.{node_at, numbers_in, owner_in}
-use Rattle.rb_play_defs.proofs.Sounds.{length_numbers}
+use Rattle.rb_message_defs.proofs.Numbers.{length_numbers}
 use Rattle.rb_journal_defs.proofs.Order.{eq_or_ne, lt_or_le}
 use Rattle.rb_group.specs.Kept.{Kept, with_part, covers_in, owner_in as kept_owner}
 use Rattle.rb_group.specs.Group.{Keeps, IsNumberOf, part_sent, CanCommit as CanCommitPart}

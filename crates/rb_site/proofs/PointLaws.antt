@@ -15,7 +15,8 @@ use Rattle.rb_message_defs.proofs.Messages.{all_below, all_joined, all_mapped}
 use Rattle.rb_group.specs.Group.{IsNumberOf}
 use Rattle.rb_group.specs.declared.group.Group.{Group}
 use Rattle.rb_play_defs.specs.Step.{Progress, needed_of}
-use Rattle.rb_play_defs.proofs.Covering.{AllCovered, found_in, numbered_get}
+use Rattle.rb_message_defs.proofs.Numbers.{found_in, numbered_get}
+use Rattle.rb_play_defs.proofs.Covering.{AllCovered}
 use Rattle.rb_play_defs.proofs.Fits.{all_filtered}
 use Rattle.rb_play_defs.proofs.Takes.{of_sent}
 use Rattle.rb_site.specs.Nodes.{Buffered, OwnersCover, CanCount, share_of, HoldsNodes}

@@ -16,7 +16,7 @@ use Rattle.rb_group.specs.Kept as group
 use Rattle.rb_group.specs.Kept.{Kept, HoldsNode, needed_in, parts_in, done_in, unacknowledged_in}
 use Rattle.rb_group.specs.Group.{Keeps}
 use Rattle.rb_group.specs.declared.group.Group.{Group}
-use Rattle.rb_play_defs.proofs.Covering.{number_at}
+use Rattle.rb_message_defs.proofs.Numbers.{number_at}
 use Rattle.rb_play_defs.specs.Step.{Progress, needed_of, acknowledged_epoch}
 use Rattle.rb_site.specs.Nodes.{Buffered, needed_by, since_of, kept_in, share_of}
 use Rattle.rb_site.specs.Site.{buffered_by}

@@ -1,8 +1,7 @@
 ghost use Rattle.std.specs.Prelude.{◌≡◌, ◌≤◌, ◌<◌, ◌+◌, ◌*◌, ◌^◌, ◌++◌, ◌∷◌, [], ℕ, max, length, true, false, IfOk, IfErr, OnOk};
 ghost use Rattle.rb_journal_defs.specs.Clock.{first_epoch};
 ghost use Rattle.rb_message_defs.specs.Message.{part_message, sent_by};
-ghost use Rattle.rb_message_defs.specs.Nodes.{node_at, owner_in, with_restart};
-ghost use Rattle.rb_play_defs.specs.Step.{nodes_at_first};
+ghost use Rattle.rb_message_defs.specs.Nodes.{nodes_at_first, node_at, owner_in, with_restart};
 ghost use Rattle.rb_site.specs.Nodes.{Buffered, nothing_done, HasNodes, SameGroups, with_changes, with_close, with_acknowledged, with_members, GroupHolds, HoldsNodes, CanCommit, CanCloseAll, CanResend, CanFail, CanRestart, CanAcknowledge, FailsTo, FailFault, RestartFault, sent_at_close, sent_at_resend};
 
 use rb_base::{Change, Epoch, NoMemory, Sent, SentList, bucket_of};

@@ -1,6 +1,6 @@
 use Rattle.std.proofs.Common.{◌*◌, ℕ, refl, sym, subst, arith, List}
 use Rattle.rb_group.specs.declared.group.Group.{Group}
-use Rattle.rb_play_defs.specs.Step.{nodes_at_first}
+use Rattle.rb_message_defs.specs.Nodes.{nodes_at_first}
 use Rattle.rb_site.specs.Nodes.{nothing_done, GroupHolds, GroupsHold}
 use Rattle.rb_site.proofs.NodeLaws.{group_more}
 use Rattle.rb_site.proofs.NewLaws.{new_holds, nodes_begin}

@@ -1,5 +1,5 @@
 use Rattle.std.proofs.Common.{◌≡◌, ◌*◌, length}
-use Rattle.rb_play_defs.specs.Step.{nodes_at_first}
+use Rattle.rb_message_defs.specs.Nodes.{nodes_at_first}
 use Rattle.rb_site.specs.Nodes.{nothing_done, GroupsHold}
 use Rattle.rb_site.proofs.nodes.Nodes.new.Given as goal
 

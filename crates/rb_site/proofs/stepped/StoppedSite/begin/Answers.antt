@@ -1,7 +1,7 @@
 use Rattle.std.proofs.Common.{◌≡◌, refl, ap, subst, ◌∙◌, ℕ, ◌*◌}
 use Rattle.rb_commit.specs.Hand.{Hand}
 use Rattle.rb_journal_defs.specs.Clock.{first_epoch}
-use Rattle.rb_play_defs.specs.Step.{nodes_at_first}
+use Rattle.rb_message_defs.specs.Nodes.{nodes_at_first}
 use Rattle.rb_site.specs.Nodes.{nothing_done, HoldsNodes}
 use Rattle.rb_site.proofs.BeginLaws.{rest_begins, no_rows, as_many, each_some}
 use Rattle.rb_site.proofs.stepped.StoppedSite.begin.Goals as goal

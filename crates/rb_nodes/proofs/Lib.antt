@@ -1,0 +1,13 @@
+pub mod Keys
+pub mod ShareLaws
+pub mod CommitLaws
+pub mod NewLaws
+pub mod OutboxLaws
+pub mod NodeLaws
+pub mod MemberLaws
+pub mod GroupLaws
+pub mod SweepLaws
+pub mod SendLaws
+pub mod PlaceLaws
+pub mod SenderLaws
+pub mod NetLaws
