@@ -18,7 +18,7 @@ use Rattle.rb_nodes.proofs.PlaceLaws.{IsOf, numbers_are, numbers_below_all, owne
 use Rattle.rb_nodes.proofs.ShareLaws.{owner_share}
 
 -- the numbers of a share are those of its group
-numbers_share : (buckets : ℕ) (site : Buffered) (number : ℕ) → numbers_of (share_of buckets site number) ≡ numbers_in site.members number
+pub numbers_share : (buckets : ℕ) (site : Buffered) (number : ℕ) → numbers_of (share_of buckets site number) ≡ numbers_in site.members number
 numbers_share buckets site number = ap (λ (n : ℕ). map (λ step. number * site.members.replicas + step) (numbers_below n)) (share_count buckets site number)
 
 -- two facts of each item

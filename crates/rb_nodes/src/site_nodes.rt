@@ -80,8 +80,8 @@ impl SiteNodes {
     }
 
     /// Fails a node. Its successor takes over its buckets and resends what is unacknowledged of
-    /// them, or the group is lost. `NodeDown` leaves the nodes unchanged. After `NoMemory` the nodes
-    /// must not be used.
+    /// them, or the group is lost. `NodeDown` leaves the nodes unchanged. After `NoMemory` the
+    /// nodes must not be used.
     pub fn fail(&mut self, node: u32) -> Result<NodeFailure, GroupFault>
         requires ready { CanFail self.old node }
         ensures failed { IfOk result (λ failure. (buckets : ℕ) (net : Net) →

@@ -2,7 +2,7 @@
 use Rattle.std.proofs.Common.{◌≡◌, ℕ, zero, suc, ◌+◌, ◌*◌, ◌/◌, ◌<◌, Bool, true, false, cond, List, [], ◌∷◌, ◌++◌, length, map, filter, refl, sym, ap, ◌∙◌, arith}
 use Rattle.std.specs.Prelude.{◌==◌, ◌&&◌, not, if◌then◌else◌}
 use Rattle.std.specs.List.{AllByRecursion, flat_map, list_any}
-use Rattle.std.proofs.Math.Nat.{suc-mul}
+use Rattle.std.proofs.Math.Nat.{mul-div_cancel, suc-mul}
 use Rattle.std.proofs.lemmas.Bool.{eqb-true}
 use Rattle.std.proofs.lemmas.List.{append-nil}
 use Rattle.std.proofs.lemmas.Grind.{flat_map-append}
@@ -13,20 +13,22 @@ use Rattle.rb_journal_defs.specs.Journal.{previous_closed}
 use Rattle.rb_journal_defs.specs.Body.{Shape, in_bucket, changes_in, numbers_below}
 use Rattle.rb_message_defs.specs.Message.{home_node, done_message, sent_by}
 use Rattle.rb_message_defs.specs.Nodes.{node_at, owner_in, covers, numbers_in, group_of, owned_by, returns, sent_from, unacknowledged}
-use Rattle.rb_message_defs.proofs.Messages.{all_below, all_joined, all_mapped, all_more}
-use Rattle.rb_message_defs.proofs.Again.{all_flat}
+use Rattle.rb_message_defs.proofs.Messages.{all_below, all_more}
 use Rattle.rb_group.specs.Kept as group
 use Rattle.rb_group.specs.Kept.{Kept, numbers_of, done_in, again_in, returns_in, covers_in}
-use Rattle.rb_play_defs.specs.Step.{Progress, acknowledged_epoch, needed_of, sent_again, only_closed, sent_at_close}
+use Rattle.rb_play_defs.specs.Step.{Progress, needed_of, sent_again, sent_by_owners, only_closed, sent_at_close}
+use Rattle.rb_play_defs.specs.Sound.{IsSound}
 use Rattle.rb_play_defs.proofs.Fits.{all_filtered}
-use Rattle.rb_site.specs.Nodes as site
-use Rattle.rb_site.specs.Nodes.{Buffered, share_of, HoldsNodes}
+use Rattle.rb_nodes.specs.Nodes as site
+use Rattle.rb_nodes.specs.Nodes.{Buffered, share_of, HoldsNodes}
 use Rattle.rb_site.specs.Site.{buffered_by}
-use Rattle.rb_site.specs.declared.nodes.Nodes.{Nodes}
-use Rattle.rb_site.proofs.NodeLaws.{of_its_group, share_count}
-use Rattle.rb_site.proofs.ShareLaws.{needed_share, unacknowledged_share, owner_share, covers_share}
-use Rattle.rb_site.proofs.MemberLaws.{numbers_split}
-use Rattle.rb_site.proofs.PointLaws.{IsOf, numbers_are, numbers_below_all, groups_are, owner_below, owned_is_of}
+use Rattle.rb_nodes.specs.declared.nodes.Nodes.{Nodes}
+use Rattle.rb_nodes.proofs.NodeLaws.{of_its_group}
+use Rattle.rb_nodes.proofs.ShareLaws.{owner_share, covers_share}
+use Rattle.rb_nodes.proofs.SenderLaws.{numbers_share}
+use Rattle.rb_site.proofs.ShareLaws.{needed_share, unacknowledged_share}
+use Rattle.rb_nodes.proofs.MemberLaws.{numbers_split}
+use Rattle.rb_nodes.proofs.PlaceLaws.{IsOf, numbers_are, owned_is_of}
 
 -- what is said alike of each item
 map_alike : {X Y : Type 0} → (f g : X → Y) (xs : List X) → AllByRecursion (λ x. f x ≡ g x) xs → map f xs ≡ map g xs
@@ -50,10 +52,7 @@ all_passing P Q test (x ∷ xs) f all = go (test x) refl (all_passing P Q test x
     go true passes rest = (f x all.0 passes, rest)
     go false passes rest = rest
 
--- the numbers of a share are those of its group
-numbers_share : (buckets : ℕ) (now : Buffered) (number : ℕ) → numbers_of (share_of buckets now number) ≡ numbers_in now.members number
-numbers_share buckets now number = ap (λ (n : ℕ). map (λ step. number * now.members.replicas + step) (numbers_below n)) (share_count buckets now number)
-
+-- a bucket of a group is among the group's numbers
 among_own : (now : Buffered) (number bucket : ℕ) → IsOf now.members.replicas number bucket → list_any (λ other. other == bucket) (numbers_in now.members number) ≡ true
 among_own now number bucket is = of_its_group now bucket number (number + 1) (record { within = omega arith; from = is.0; below = is.1 })
 
@@ -119,45 +118,11 @@ group_closes shape gci run number prev next before following =
     done bucket = record { sender = group.owner_in kept bucket; message = done_in kept bucket (run.opened, prev) }
 
 -- and what all of them send
-pub sent_closing : (shape : Shape) (gci : Bool) (run : Progress) (nodes : Nodes) (prev next : ℕ) → HoldsNodes nodes shape.buckets (buffered_by shape run) → prev ≡ previous_closed run.opened run.journal →
-    site.only_closed prev next (buffered_by shape run) ≡ buffered_by shape (only_closed gci run) →
-    site.sent_at_close shape.buckets (buffered_by shape run) prev next (length nodes.groups.items) ≡ flat_map (sent_at_close shape run (only_closed gci run)) (numbers_below (shape.buckets / run.nodes.replicas))
-sent_closing shape gci run nodes prev next held before following =
-    flat_alike (λ number. group.sent_at_close prev next (share_of shape.buckets (buffered_by shape run) number)) (sent_at_close shape run (only_closed gci run)) (numbers_below (length nodes.groups.items))
-    (all_below (length nodes.groups.items) (λ number within. group_closes shape gci run number prev next before following))
-    ∙ ap (λ (groups : ℕ). flat_map (sent_at_close shape run (only_closed gci run)) (numbers_below groups)) (groups_are nodes shape.buckets (buffered_by shape run) held)
-
--- messages of one sender
-from_sender : (most sender : ℕ) (messages : List Message) → sender < most → AllByRecursion (λ m. m.sender < most) (sent_from sender messages)
-from_sender most sender [] below = tt
-from_sender most sender (message ∷ messages) below = (below, from_sender most sender messages below)
-
--- what is resent by senders below a number
-again_senders : (shape : Shape) (run : Progress) (most : ℕ) (sender : ℕ → ℕ) (buckets : List ℕ) → AllByRecursion (λ bucket. sender bucket < most) buckets →
-    AllByRecursion (λ m. m.sender < most) (flat_map (λ bucket. sent_again shape run (sender bucket) bucket) buckets)
-again_senders shape run most sender [] below = tt
-again_senders shape run most sender (bucket ∷ buckets) below =
-    all_joined (λ (m : Sent). m.sender < most) (sent_again shape run (sender bucket) bucket) (flat_map (λ b. sent_again shape run (sender b) b) buckets)
-    (from_sender most (sender bucket) (unacknowledged shape (acknowledged_epoch shape run) run.opened run.journal bucket) below.0)
-    (again_senders shape run most sender buckets below.1)
-
--- who sends at a close is one of the nodes
-pub closing_senders : (shape : Shape) (gci : Bool) (run : Progress) (nodes : Nodes) → HoldsNodes nodes shape.buckets (buffered_by shape run) →
-    AllByRecursion (λ m. m.sender < shape.buckets) (flat_map (sent_at_close shape run (only_closed gci run)) (numbers_below (shape.buckets / run.nodes.replicas)))
-closing_senders shape gci run nodes held =
-    all_flat (λ (m : Sent). m.sender < shape.buckets) (sent_at_close shape run (only_closed gci run)) (numbers_below (shape.buckets / run.nodes.replicas))
-    (all_below (shape.buckets / run.nodes.replicas) (λ number within. one number (numbers_below_all nodes shape.buckets (buffered_by shape run) number held (let n = groups_are nodes shape.buckets (buffered_by shape run) held in omega arith))))
-  where
-    after : Progress
-    after = only_closed gci run
-
-    one : (number : ℕ) → AllByRecursion (λ bucket. bucket < shape.buckets) (numbers_in run.nodes number) → AllByRecursion (λ (m : Sent). m.sender < shape.buckets) (sent_at_close shape run after number)
-    one number below =
-        all_joined (λ (m : Sent). m.sender < shape.buckets) (map (λ bucket. sent_by (owner_in run.nodes) (done_message shape run.opened bucket run.journal)) (numbers_in run.nodes number))
-        (flat_map (λ bucket. sent_again shape after bucket bucket) (filter (returns run.nodes (needed_of shape after)) (numbers_in run.nodes number)))
-        (all_mapped (λ (m : Sent). m.sender < shape.buckets) (λ bucket. sent_by (owner_in run.nodes) (done_message shape run.opened bucket run.journal)) (numbers_in run.nodes number)
-        (all_more (λ bucket. bucket < shape.buckets) (λ bucket. owner_in run.nodes bucket < shape.buckets) (numbers_in run.nodes number) (λ bucket l. owner_below nodes shape.buckets (buffered_by shape run) bucket held l) below))
-        (again_senders shape after shape.buckets (λ bucket. bucket) (filter (returns run.nodes (needed_of shape after)) (numbers_in run.nodes number)) (all_filtered (λ bucket. bucket < shape.buckets) (returns run.nodes (needed_of shape after)) (numbers_in run.nodes number) below))
+pub sent_closing : (shape : Shape) (gci : Bool) (run : Progress) (prev next groups : ℕ) → prev ≡ previous_closed run.opened run.journal → site.only_closed prev next (buffered_by shape run) ≡ buffered_by shape (only_closed gci run) →
+    site.sent_at_close shape.buckets (buffered_by shape run) prev next groups ≡ flat_map (sent_at_close shape run (only_closed gci run)) (numbers_below groups)
+sent_closing shape gci run prev next groups before following =
+    flat_alike (λ number. group.sent_at_close prev next (share_of shape.buckets (buffered_by shape run) number)) (sent_at_close shape run (only_closed gci run)) (numbers_below groups)
+    (all_below groups (λ number within. group_closes shape gci run number prev next before following))
 
 -- what a successor sends
 pub sent_taking_over : (shape : Shape) (run : Progress) (nodes : Nodes) (node successor : ℕ) → HoldsNodes nodes shape.buckets (buffered_by shape run) →
@@ -169,13 +134,6 @@ sent_taking_over shape run nodes node successor held =
     (λ bucket below owns. again_share shape run (group_of run.nodes node) successor bucket
     (owned_is_of nodes shape.buckets (buffered_by shape run) bucket node held (let count = held.owners in omega arith) (eqb-true (owner_in run.nodes bucket) node owns)))
     (all_below (length run.nodes.owners) (λ k below. below)))
-
-pub takeover_senders : (shape : Shape) (run : Progress) (node successor : ℕ) → successor < shape.buckets → AllByRecursion (λ m. m.sender < shape.buckets) (flat_map (sent_again shape run successor) (owned_by run.nodes node))
-takeover_senders shape run node successor below = again_senders shape run shape.buckets (λ bucket. successor) (owned_by run.nodes node) (each (owned_by run.nodes node))
-  where
-    each : (buckets : List ℕ) → AllByRecursion (λ (bucket : ℕ). successor < shape.buckets) buckets
-    each [] = tt
-    each (bucket ∷ buckets) = (below, each buckets)
 
 -- group by group, or bucket by bucket
 by_groups : (f : ℕ → List Sent) (replicas groups : ℕ) → flat_map (λ number. flat_map f (map (λ step. number * replicas + step) (numbers_below replicas))) (numbers_below groups) ≡ flat_map f (numbers_below (groups * replicas))
@@ -203,16 +161,19 @@ group_resends shape run number =
     (numbers_are run.nodes number))
 
 -- and what all of them do
-pub sent_resending : (shape : Shape) (run : Progress) (nodes : Nodes) → HoldsNodes nodes shape.buckets (buffered_by shape run) →
-    site.sent_at_resend shape.buckets (buffered_by shape run) (length nodes.groups.items) ≡ flat_map (λ bucket. sent_again shape run (owner_in run.nodes bucket) bucket) (numbers_below shape.buckets)
-sent_resending shape run nodes held =
+pub sent_resending : (shape : Shape) (run : Progress) → IsSound shape run → site.sent_at_resend shape.buckets (buffered_by shape run) (shape.buckets / run.nodes.replicas) ≡ sent_by_owners shape run
+sent_resending shape run sound =
     let again : ℕ → List Sent = λ bucket. sent_again shape run (owner_in run.nodes bucket) bucket in
-    flat_alike (λ number. group.sent_at_resend (share_of shape.buckets (buffered_by shape run) number)) (λ number. flat_map again (numbers_in run.nodes number)) (numbers_below (length nodes.groups.items))
-    (all_below (length nodes.groups.items) (λ number within. group_resends shape run number))
-    ∙ by_groups again run.nodes.replicas (length nodes.groups.items)
-    ∙ ap (λ (n : ℕ). flat_map again (numbers_below n)) (ap (λ (replicas : ℕ). length nodes.groups.items * replicas) (sym held.replicas) ∙ held.count)
+    let groups = shape.buckets / run.nodes.replicas in
+    flat_alike (λ number. group.sent_at_resend (share_of shape.buckets (buffered_by shape run) number)) (λ number. flat_map again (numbers_in run.nodes number)) (numbers_below groups)
+    (all_below groups (λ number within. group_resends shape run number))
+    ∙ by_groups again run.nodes.replicas groups
+    ∙ ap (λ (n : ℕ). flat_map again (numbers_below n)) whole
+  where
+    some : 0 < run.nodes.replicas
+    some = sound.nodes.some
 
-pub resend_senders : (shape : Shape) (run : Progress) (nodes : Nodes) → HoldsNodes nodes shape.buckets (buffered_by shape run) →
-    AllByRecursion (λ m. m.sender < shape.buckets) (flat_map (λ bucket. sent_again shape run (owner_in run.nodes bucket) bucket) (numbers_below shape.buckets))
-resend_senders shape run nodes held =
-    again_senders shape run shape.buckets (owner_in run.nodes) (numbers_below shape.buckets) (all_below shape.buckets (λ bucket below. owner_below nodes shape.buckets (buffered_by shape run) bucket held below))
+    whole : shape.buckets / run.nodes.replicas * run.nodes.replicas ≡ shape.buckets
+    whole =
+        ap (λ (n : ℕ). n * run.nodes.replicas) (ap (λ (all : ℕ). all / run.nodes.replicas) (sym sound.nodes.whole) ∙ mul-div_cancel sound.nodes.groups {n = run.nodes.replicas} some)
+        ∙ sound.nodes.whole

@@ -16,36 +16,15 @@ use Rattle.rb_device_defs.specs.Image.{IsLogImage}
 use Rattle.rb_device_defs.proofs.ImageLaws.{image_of_none}
 use Rattle.rb_inject.specs.Injector as inject
 use Rattle.rb_inject.specs.Injector.{IsLogSetup}
-use Rattle.rb_message_defs.specs.Nodes.{node_from, nodes_at_first, down}
-use Rattle.rb_play_defs.specs.Step.{beginning, failed_in}
+use Rattle.rb_play_defs.specs.Step.{beginning}
 use Rattle.rb_play_defs.proofs.Sounds.{sound_beginning}
 use Rattle.rb_play_defs.proofs.Covering.{covered_beginning}
-use Rattle.rb_site.specs.Nodes.{nothing_done, HoldsNodes}
-use Rattle.rb_site.specs.Outbox.{HoldsSent, nodes_in}
-use Rattle.rb_site.specs.Site.{AreDeclared, shape_of, loss_of}
+use Rattle.rb_nodes.specs.Net.{HoldsNet, new_net}
+use Rattle.rb_site.specs.Site.{AreDeclared, shape_of}
 use Rattle.rb_site.specs.Stepped.{IsStoppedSite}
 use Rattle.rb_site.specs.declared.stepped.StoppedSite.{StoppedSite}
-use Rattle.rb_site.specs.declared.outbox.Outbox.{Outbox}
 use Rattle.rb_site.proofs.LogLaws.{log_setup_is}
 use Rattle.rb_site.proofs.TakeLaws.{owners_covered}
-
--- no node has failed
-none_failed : (numbers : List ℕ) (node : ℕ) → (unwrap_or (slice_get (map (λ number. node_from first_epoch) numbers) node) down).failed_at ≡ 0
-none_failed [] node = refl
-none_failed (number ∷ numbers) zero = refl
-none_failed (number ∷ numbers) (suc node) = none_failed numbers node
-
--- an outbox in which nothing was sent, by other words for the same counts
-nothing_sent : (outbox : Outbox) (failed_at other : ℕ → ℕ) → ((node : ℕ) → other node ≡ failed_at node) → HoldsSent outbox [] [] failed_at → HoldsSent outbox [] [] other
-nothing_sent outbox failed_at other same held = record {
-  sent_is = held.sent_is;
-  failed_is = λ node within. held.failed_is node within ∙ ap (λ (n : ℕ). Some n) (sym (same node));
-  senders = tt;
-  failed_within = λ node. (let few = held.failed_within node in let is = same node in omega arith);
-  waiting = held.waiting;
-  within = held.within;
-  below = tt;
-}
 
 -- there is a node in each group
 pub each_some : (groups replicas : ℕ) → 0 < groups * replicas → 0 < replicas
@@ -55,9 +34,9 @@ each_some groups (suc replicas) some = omega arith
 -- a site at its start, without an injector
 pub rest_begins : (schemas : List Schema) (groups replicas : ℕ) (rest : StoppedSite) → AreDeclared (shape_of schemas groups replicas) → 0 < groups * replicas → rest.id ≡ A → rest.mapped ≡ mapped_tables schemas →
     rest.clock ≡ record { opened = first_epoch; previous = 0; drawn = 0 } → ((t k : ℕ) → rows_in rest.tables t k ≡ None) → tables_in rest.tables ≡ length (mapped_tables schemas) →
-    HoldsNodes rest.nodes (groups * replicas) (nothing_done first_epoch (nodes_at_first groups replicas)) → loss_of rest.lost ≡ None → HoldsSent rest.outbox [] [] (λ node. 0) → nodes_in rest.outbox ≡ groups * replicas →
+    HoldsNet rest.nodes (groups * replicas) (new_net groups replicas first_epoch) →
     rest.made ≡ 0 → IsStoppedSite (shape_of schemas groups replicas) rest (beginning groups replicas)
-rest_begins schemas groups replicas rest declared some id mapped clock rows count nodes lost outbox senders made =
+rest_begins schemas groups replicas rest declared some id mapped clock rows count nodes made =
     let shape : Shape = shape_of schemas groups replicas in record {
       declared = declared;
       sound = sound_beginning shape groups replicas refl some (each_some groups replicas some);
@@ -67,11 +46,8 @@ rest_begins schemas groups replicas rest declared some id mapped clock rows coun
       clock = clock;
       rows = rows;
       count = count;
-      nodes = nodes;
+      net = nodes;
       covered = owners_covered shape (beginning groups replicas) (covered_beginning shape groups replicas refl);
-      lost = lost;
-      outbox = nothing_sent rest.outbox (λ node. 0) (failed_in (beginning groups replicas)) (λ node. none_failed (numbers_below (groups * replicas)) node) outbox;
-      senders = senders;
       made = made;
       few = omega arith;
     }

@@ -12,7 +12,7 @@ use Rattle.rb_base.specs.declared.message.Sent.{Sent}
 use Rattle.rb_base.specs.declared.body.EpochBody.{EpochBody}
 use Rattle.rb_base.specs.declared.outcome.Outcome.TheVariants as outcomes
 use Rattle.rb_journal_defs.specs.Journal.{Entry, Closed, Journal, changes_of, closed_epochs, previous_closed}
-use Rattle.rb_journal_defs.specs.Body.{Shape, numbers_below, changes_in, body_of, completed_bodies}
+use Rattle.rb_journal_defs.specs.Body.{Shape, changes_in, body_of, completed_bodies}
 use Rattle.rb_journal_defs.specs.Clock.{epoch_after}
 use Rattle.rb_journal_defs.proofs.Bodies.{changes_in_closed, completed_closed, if_logged}
 use Rattle.rb_message_defs.specs.Nodes.{needed_epoch, with_returns}
@@ -21,22 +21,22 @@ use Rattle.rb_commit.specs.Hand.{Hand}
 use Rattle.rb_store.specs.Tables.{rows_in, tables_in}
 use Rattle.rb_evbuf.specs.Buffer.{StandsFor}
 use Rattle.rb_evbuf.specs.declared.buffer.EventBuffer.{EventBuffer}
-use Rattle.rb_play_defs.specs.Step.{Progress, only_closed, sent_at_close, closed, close_step, fed_by, written_bodies, last_epoch, acknowledged_epoch, needed_of, failed_in}
+use Rattle.rb_play_defs.specs.Step.{Progress, only_closed, sent_at_close, closed, close_step, fed_by, written_bodies, last_epoch, acknowledged_epoch, needed_of}
 use Rattle.rb_play_defs.specs.Sound.{IsSound}
 use Rattle.rb_inject.specs.Injector as inject
 use Rattle.rb_inject.specs.declared.injector.Injector.{Injector}
 use Rattle.rb_play_defs.proofs.Sounds.{closed_all_below, epoch_rises, sound_close}
 use Rattle.rb_play_defs.proofs.Grows.{written_within}
 use Rattle.rb_play_defs.proofs.Covering.{AllCovered, acknowledged_below, needed_at_close, covered_returns}
-use Rattle.rb_site.specs.Nodes as site
-use Rattle.rb_site.specs.Nodes.{Buffered, needed_by, with_close, HoldsNodes, CanCloseAll}
-use Rattle.rb_site.specs.Outbox.{HoldsSent, count_in, nodes_in}
-use Rattle.rb_site.specs.Site.{IsSite, buffered_by, closes_of, loss_of, setup_of}
+use Rattle.rb_nodes.specs.Nodes as site
+use Rattle.rb_nodes.specs.Nodes.{Buffered, needed_by, with_close}
+use Rattle.rb_nodes.specs.Net.{Net, HoldsNet, count_in, closed_net, CanClose}
+use Rattle.rb_site.specs.Site.{IsSite, buffered_by, net_of, closes_of, setup_of}
 use Rattle.rb_site.specs.declared.site.Site.{Site}
 use Rattle.rb_site.proofs.RowLaws.{last_end}
 use Rattle.rb_site.proofs.ShareLaws.{needed_share}
 use Rattle.rb_site.proofs.PointLaws.{can_count, cover_at_site, cover_in_run}
-use Rattle.rb_site.proofs.AgainLaws.{sent_closing, closing_senders}
+use Rattle.rb_site.proofs.AgainLaws.{sent_closing}
 
 -- the epoch that was closed last is the one before the next
 previous_of_next : (next o : ℕ) (j : Journal) → o < next → previous_closed next (Closed o ∷ j) ≡ o
@@ -66,11 +66,11 @@ closes_after o j below = sym (
     ∙ ap (λ (p : ℕ). closes_of j ++ (o, p) ∷ []) (previous_stays o o j (omega arith)))
 
 -- the open epoch can close
-pub can_close : (shape : Shape) (gci : Bool) (site : Site) (seen : ℕ → List ℕ) (run : Progress) (next : ℕ) → IsSite shape site seen run → run.lost ≡ None → next ≡ epoch_after gci site.clock.opened → CanCloseAll site.nodes next
+pub can_close : (shape : Shape) (gci : Bool) (site : Site) (seen : ℕ → List ℕ) (run : Progress) (next : ℕ) → IsSite shape site seen run → run.lost ≡ None → next ≡ epoch_after gci site.clock.opened → CanClose site.nodes next
 can_close shape gci site seen run next held none is =
     let above : run.opened < epoch_after gci run.opened = epoch_rises gci run.opened in
     let same : next ≡ epoch_after gci run.opened = is ∙ ap (λ (hand : Hand). epoch_after gci hand.opened) held.clock in
-    (shape.buckets, buffered_by shape run, held.nodes, held.covered none, can_count shape site seen run held, omega arith)
+    (shape.buckets, net_of shape run, held.net, held.covered none, can_count shape site seen run held, omega arith)
 
 -- what is written stays
 written_stays : (shape : Shape) (gci : Bool) (run : Progress) → IsSound shape run → written_bodies shape (closed shape gci run) ≡ written_bodies shape run
@@ -98,6 +98,15 @@ buffered_closed shape gci run prev next following =
     ap (λ (now : Buffered). record now { members = with_returns (needed_by now) run.nodes }) following
     ∙ ap (λ (n : ℕ). record (buffered_by shape after) { members = with_returns n run.nodes }) (needed_share shape after 0)
 
+-- and what they sent
+net_closed : (shape : Shape) (gci : Bool) (run : Progress) (prev next : ℕ) → prev ≡ previous_closed run.opened run.journal → site.only_closed prev next (buffered_by shape run) ≡ buffered_by shape (only_closed gci run) →
+    closed_net shape.buckets prev next (net_of shape run) ≡ net_of shape (closed shape gci run)
+net_closed shape gci run prev next before following =
+    ap (λ (s : Buffered). record { buffered = s; sent = run.sent ++ site.sent_at_close shape.buckets (buffered_by shape run) prev next (shape.buckets / run.nodes.replicas); delivered = run.delivered; lost = run.lost })
+    (buffered_closed shape gci run prev next following)
+    ∙ ap (λ (ms : List Sent). record { buffered = buffered_by shape (closed shape gci run); sent = run.sent ++ ms; delivered = run.delivered; lost = run.lost })
+    (sent_closing shape gci run prev next (shape.buckets / run.nodes.replicas) before following)
+
 -- the owners cover after the close
 covered_closed : (shape : Shape) (gci : Bool) (run : Progress) → IsSound shape run → AllCovered shape.buckets (needed_of shape run) run.nodes → AllCovered shape.buckets (needed_of shape (closed shape gci run)) (closed shape gci run).nodes
 covered_closed shape gci run sound all =
@@ -107,42 +116,18 @@ covered_closed shape gci run sound all =
     ∙ needed_at_close (acknowledged_epoch shape run) run.opened (epoch_after gci run.opened) run.journal (acknowledged_below shape run sound) in
     subst (λ (n : ℕ). AllCovered shape.buckets n (with_returns n run.nodes)) (sym needed) (covered_returns shape.buckets (needed_of shape run) run.nodes sound.nodes.owners all)
 
--- what the nodes send at a close is what the run sends
-pub closing_are : (shape : Shape) (gci : Bool) (old : Site) (seen : ℕ → List ℕ) (run : Progress) (prev next : Epoch) (messages : List Sent) → IsSite shape old seen run →
-    prev.0 ≡ old.clock.previous → next.0 ≡ epoch_after gci old.clock.opened →
-    ((b : ℕ) (s : Buffered) → HoldsNodes old.nodes b s → messages ≡ site.sent_at_close b s prev.0 next.0 (length old.nodes.groups.items)) →
-    messages ≡ flat_map (sent_at_close shape run (only_closed gci run)) (numbers_below (shape.buckets / run.nodes.replicas))
-closing_are shape gci old seen run prev next messages held is_prev is_next sends =
-    let before : prev.0 ≡ previous_closed run.opened run.journal = is_prev ∙ ap (λ (h : Hand). h.previous) held.clock in
-    let after : next.0 ≡ epoch_after gci run.opened = is_next ∙ ap (λ (h : Hand). epoch_after gci h.opened) held.clock in
-    sends shape.buckets (buffered_by shape run) held.nodes
-    ∙ sent_closing shape gci run old.nodes prev.0 next.0 held.nodes before (buffered_after shape gci run prev.0 next.0 held.sound before after)
-
--- and who sends it is one of the nodes
-pub closing_from : (shape : Shape) (gci : Bool) (old : Site) (seen : ℕ → List ℕ) (run : Progress) (prev next : Epoch) (messages : List Sent) → IsSite shape old seen run →
-    prev.0 ≡ old.clock.previous → next.0 ≡ epoch_after gci old.clock.opened →
-    ((b : ℕ) (s : Buffered) → HoldsNodes old.nodes b s → messages ≡ site.sent_at_close b s prev.0 next.0 (length old.nodes.groups.items)) →
-    AllByRecursion (λ message. message.sender < nodes_in old.outbox) messages
-closing_from shape gci old seen run prev next messages held is_prev is_next sends =
-    subst (λ (n : ℕ). AllByRecursion (λ (message : Sent). message.sender < n) messages) (sym held.senders)
-    (subst (AllByRecursion (λ (message : Sent). message.sender < shape.buckets)) (sym (closing_are shape gci old seen run prev next messages held is_prev is_next sends)) (closing_senders shape gci run old.nodes held.nodes))
-
 -- a site whose epoch closed, however its parts are made
-pub site_closed : (shape : Shape) (gci : Bool) (old new : Site) (seen : ℕ → List ℕ) (run : Progress) (prev next : Epoch) (messages : List Sent) → IsSite shape old seen run →
+pub site_closed : (shape : Shape) (gci : Bool) (old new : Site) (seen : ℕ → List ℕ) (run : Progress) (prev next : Epoch) → IsSite shape old seen run →
     prev.0 ≡ old.clock.previous → next.0 ≡ epoch_after gci old.clock.opened →
     new.id ≡ old.id → new.mapped ≡ old.mapped → new.clock ≡ record { opened = epoch_after gci old.clock.opened; previous = old.clock.opened; drawn = old.clock.drawn } →
     new.tables ≡ old.tables →
-    ((b : ℕ) (s : Buffered) → HoldsNodes old.nodes b s → HoldsNodes new.nodes b (with_close prev.0 next.0 s)) →
-    ((b : ℕ) (s : Buffered) → HoldsNodes old.nodes b s → messages ≡ site.sent_at_close b s prev.0 next.0 (length old.nodes.groups.items)) →
-    ((ss : List Sent) (ds : List ℕ) (fa : ℕ → ℕ) → HoldsSent old.outbox ss ds fa → HoldsSent new.outbox (ss ++ messages) ds fa) →
-    nodes_in new.outbox ≡ nodes_in old.outbox →
-    new.events ≡ old.events → new.injector ≡ old.injector → new.lost ≡ old.lost → new.made ≡ old.made → IsSite shape new seen (closed shape gci run)
-site_closed shape gci old new seen run prev next messages held is_prev is_next id mapped clock tables nodes sends outbox senders events log lost made =
+    ((b : ℕ) (n : Net) → HoldsNet old.nodes b n → HoldsNet new.nodes b (closed_net b prev.0 next.0 n)) →
+    new.events ≡ old.events → new.injector ≡ old.injector → new.made ≡ old.made → IsSite shape new seen (closed shape gci run)
+site_closed shape gci old new seen run prev next held is_prev is_next id mapped clock tables nodes events log made =
     let o = run.opened in
     let before : prev.0 ≡ previous_closed run.opened run.journal = is_prev ∙ ap (λ (h : Hand). h.previous) held.clock in
     let after : next.0 ≡ epoch_after gci run.opened = is_next ∙ ap (λ (h : Hand). epoch_after gci h.opened) held.clock in
     let bodies = written_stays shape gci run held.sound in
-    let all = closing_are shape gci old seen run prev next messages held is_prev is_next sends in
     record {
       declared = held.declared;
       sound = sound_close shape gci run held.sound;
@@ -154,11 +139,8 @@ site_closed shape gci old new seen run prev next messages held is_prev is_next i
           ∙ ap (λ (p : ℕ). record { opened = epoch_after gci o; previous = p; drawn = run.drawn }) (sym (previous_of_next (epoch_after gci o) o run.journal (epoch_rises gci o)));
       rows = λ t k. ap (λ (ts : _). rows_in ts t k) tables ∙ held.rows t k;
       count = ap tables_in tables ∙ held.count;
-      nodes = subst (HoldsNodes new.nodes shape.buckets) (buffered_closed shape gci run prev.0 next.0 (buffered_after shape gci run prev.0 next.0 held.sound before after)) (nodes shape.buckets (buffered_by shape run) held.nodes);
+      net = subst (HoldsNet new.nodes shape.buckets) (net_closed shape gci run prev.0 next.0 before (buffered_after shape gci run prev.0 next.0 held.sound before after)) (nodes shape.buckets (net_of shape run) held.net);
       covered = λ none. cover_at_site shape (closed shape gci run) (covered_closed shape gci run held.sound (cover_in_run shape run (held.covered none)));
-      lost = ap loss_of lost ∙ held.lost;
-      outbox = subst (λ (ms : List Sent). HoldsSent new.outbox (run.sent ++ ms) run.delivered (failed_in run)) all (outbox run.sent run.delivered (failed_in run) held.outbox);
-      senders = senders ∙ held.senders;
       events = subst (λ (b : EventBuffer). StandsFor b (fed_by shape run)) (sym events) held.events;
       log = subst (λ (its : Injector). inject.StandsFor its (setup_of shape its) (written_bodies shape (closed shape gci run)) seen) (sym log)
           (subst (λ (bs : List EpochBody). inject.StandsFor old.injector (setup_of shape old.injector) bs seen) (sym bodies) held.log);
@@ -170,9 +152,9 @@ site_closed shape gci old new seen run prev next messages held is_prev is_next i
     counted = omega (arith, sum_by-cons (λ (entry : Entry). length (changes_of shape.site entry)) (Closed run.opened) run.journal)
 
 -- the same, with its answer
-pub close_is : (shape : Shape) (gci : Bool) (new : Site) (seen : ℕ → List ℕ) (run : Progress) (ended : Epoch) (sent : ℕ) → IsSite shape new seen (closed shape gci run) → ended.0 ≡ run.opened → sent ≡ count_in new.outbox →
+pub close_is : (shape : Shape) (gci : Bool) (new : Site) (seen : ℕ → List ℕ) (run : Progress) (ended : Epoch) (sent : ℕ) → IsSite shape new seen (closed shape gci run) → ended.0 ≡ run.opened → sent ≡ count_in new.nodes →
     IsSite shape new seen (close_step shape gci run).run × (outcomes.Closed ended sent ≡ (close_step shape gci run).outcome)
 unfolding close_step
 close_is shape gci new seen run ended sent held is count =
     let e : ended ≡ record { 0 = run.opened } = ap (λ (n : ℕ). record { 0 = n }) is in
-    (held, ap (λ (x : Epoch). outcomes.Closed x sent) e ∙ ap (outcomes.Closed (record { 0 = run.opened })) (count ∙ ap length held.outbox.sent_is))
+    (held, ap (λ (x : Epoch). outcomes.Closed x sent) e ∙ ap (outcomes.Closed (record { 0 = run.opened })) (count ∙ ap length held.net.outbox.sent_is))

@@ -11,14 +11,14 @@ use Rattle.rb_journal_defs.specs.Transaction.{first_of}
 use Rattle.rb_journal_defs.proofs.Counts.{filter_length}
 use Rattle.rb_message_defs.specs.declared.answers.Received.{Received}
 use Rattle.rb_message_defs.specs.declared.answers.Received.TheVariants as answers
-use Rattle.rb_message_defs.specs.Nodes.{is_gone, waiting_places}
+use Rattle.rb_message_defs.specs.Nodes.{is_gone}
 use Rattle.rb_play_defs.specs.Step.{Progress, StepResult, answer_outcome, deliver_step, undelivered, all_delivered, delivery_outcomes, delivery_of_all, deliver_all_step, is_kept, is_known, is_old, failed_in}
-use Rattle.rb_site.specs.Outbox.{HoldsSent, count_in}
+use Rattle.rb_nodes.specs.Net.{Net, HoldsNet, count_in, waiting_in}
 use Rattle.rb_site.specs.Tally.{sum_of, with_answer}
-use Rattle.rb_site.specs.Site.{IsSite}
+use Rattle.rb_site.specs.Site.{IsSite, net_of}
 use Rattle.rb_site.specs.declared.site.Site.{Site}
 use Rattle.rb_site.specs.declared.tally.Tally.{Tally}
-use Rattle.rb_site.proofs.OutboxLaws.{waiting_rest, waiting_within, still_waiting, still_waiting_is}
+use Rattle.rb_nodes.proofs.OutboxLaws.{waiting_rest, waiting_within, still_waiting, still_waiting_is}
 use Rattle.rb_site.proofs.DeliverLaws.{deliver_there}
 
 -- what the results for the places that wait add to those that were counted
@@ -49,11 +49,10 @@ way_begins shape seen run site held = record {
   few = (let f = filter_length (λ place. not (list_any (λ delivered. delivered == place) run.delivered) && not (is_gone (failed_in run) run.sent place)) (numbers_below (length run.sent)) in let n = numbers_length (length run.sent) in omega arith);
 }
 
--- a site whose outbox was looked at represents the same
+-- a site whose nodes were asked for a waiting place represents the same
 pub site_looked : (shape : Shape) (old new : Site) (seen : ℕ → List ℕ) (run : Progress) → IsSite shape old seen run →
-    ((ss : List Sent) (ds : List ℕ) (failed_at : ℕ → ℕ) → HoldsSent old.outbox ss ds failed_at → HoldsSent new.outbox ss ds failed_at) →
-    new.outbox.failed ≡ old.outbox.failed → new ≡ record old { outbox = new.outbox } → IsSite shape new seen run
-site_looked shape old new seen run held outbox failed rest =
+    ((b : ℕ) (n : Net) → HoldsNet old.nodes b n → HoldsNet new.nodes b n) → new ≡ record old { nodes = new.nodes } → IsSite shape new seen run
+site_looked shape old new seen run held nodes rest =
     subst (λ (s : Site). IsSite shape s seen run) (sym rest) (record {
       declared = held.declared;
       sound = held.sound;
@@ -63,29 +62,25 @@ site_looked shape old new seen run held outbox failed rest =
       clock = held.clock;
       rows = held.rows;
       count = held.count;
-      nodes = held.nodes;
+      net = nodes shape.buckets (net_of shape run) held.net;
       covered = held.covered;
-      lost = held.lost;
-      outbox = outbox run.sent run.delivered (failed_in run) held.outbox;
-      senders = rw failed held.senders;
       events = held.events;
       log = held.log;
       made = held.made;
       few = held.few;
     })
 
--- what an outbox returns is the first place that waits
+-- what its nodes return is the first place that waits
 pub first_waits : (shape : Shape) (seen : ℕ → List ℕ) (run : Progress) (site : Site) (tally : Tally) (next : Option ℕ) (way : IsOnTheWay shape seen run site tally) →
-    ((ss : List Sent) (ds : List ℕ) (failed_at : ℕ → ℕ) → HoldsSent site.outbox ss ds failed_at → next ≡ first_of (waiting_places failed_at ss ds)) → next ≡ first_of (undelivered way.now)
-first_waits shape seen run site tally next way first = first way.now.sent way.now.delivered (failed_in way.now) way.held.outbox
+    ((b : ℕ) (n : Net) → HoldsNet site.nodes b n → next ≡ first_of (waiting_in n)) → next ≡ first_of (undelivered way.now)
+first_waits shape seen run site tally next way first = first shape.buckets (net_of shape way.now) way.held.net
 
 -- and so does what is on its way
 abbrev pub way_looked : (shape : Shape) (seen : ℕ → List ℕ) (run : Progress) (old new : Site) (tally : Tally) → IsOnTheWay shape seen run old tally →
-    ((ss : List Sent) (ds : List ℕ) (failed_at : ℕ → ℕ) → HoldsSent old.outbox ss ds failed_at → HoldsSent new.outbox ss ds failed_at) →
-    new.outbox.failed ≡ old.outbox.failed → new ≡ record old { outbox = new.outbox } → IsOnTheWay shape seen run new tally
-way_looked shape seen run old new tally way outbox failed rest = record {
+    ((b : ℕ) (n : Net) → HoldsNet old.nodes b n → HoldsNet new.nodes b n) → new ≡ record old { nodes = new.nodes } → IsOnTheWay shape seen run new tally
+way_looked shape seen run old new tally way nodes rest = record {
   now = way.now;
-  held = site_looked shape old new seen way.now way.held outbox failed rest;
+  held = site_looked shape old new seen way.now way.held nodes rest;
   goal = way.goal;
   counted = way.counted;
   few = way.few;
@@ -132,20 +127,20 @@ sum_more answers.Old tally = omega arith
 
 -- the place is one of those that were sent, and its outcome can be counted
 pub place_within : (shape : Shape) (seen : ℕ → List ℕ) (run : Progress) (site : Site) (tally : Tally) (place : ℕ) (way : IsOnTheWay shape seen run site tally) →
-    Some place ≡ first_of (undelivered way.now) → place < count_in site.outbox
+    Some place ≡ first_of (undelivered way.now) → place < count_in site.nodes
 place_within shape seen run site tally place way first =
     let next = next_place shape seen run site tally place way first in
     let l : place < length way.now.sent = waiting_within (failed_in way.now) way.now.sent place way.now.delivered next.0 next.1 in
-    let s : count_in site.outbox ≡ length way.now.sent = ap length way.held.outbox.sent_is in
+    let s : count_in site.nodes ≡ length way.now.sent = ap length way.held.net.outbox.sent_is in
     omega arith
 
 pub sum_below : (shape : Shape) (seen : ℕ → List ℕ) (run : Progress) (site : Site) (tally : Tally) (place : ℕ) (way : IsOnTheWay shape seen run site tally) →
-    Some place ≡ first_of (undelivered way.now) → sum_of tally + 1 ≤ count_in site.outbox
+    Some place ≡ first_of (undelivered way.now) → sum_of tally + 1 ≤ count_in site.nodes
 sum_below shape seen run site tally place way first =
     let next = next_place shape seen run site tally place way first in
     let one : length (undelivered way.now) ≡ suc (length next.0) = ap length next.1 in
     let few = way.few in
-    let s : count_in site.outbox ≡ length way.now.sent = ap length way.held.outbox.sent_is in
+    let s : count_in site.nodes ≡ length way.now.sent = ap length way.held.net.outbox.sent_is in
     omega arith
 
 -- one place more is delivered
@@ -184,7 +179,7 @@ way_more shape seen run old new tally place answer way first step =
 pub way_smaller : (shape : Shape) (seen : ℕ → List ℕ) (run : Progress) (old new : Site) (tally : Tally) (place : ℕ) (answer : Received) (way : IsOnTheWay shape seen run old tally) →
     Some place ≡ first_of (undelivered way.now) →
     ((s : Shape) (f : ℕ → List ℕ) (r : Progress) → IsSite s old f r → IsSite s new f (deliver_step s place r).run × (answer_outcome answer ≡ (deliver_step s place r).outcome)) →
-    still_waiting new.outbox < still_waiting old.outbox
+    still_waiting new.nodes.outbox < still_waiting old.nodes.outbox
 way_smaller shape seen run old new tally place answer way first step =
     let now = way.now in
     let (rest, waits) = next_place shape seen run old tally place way first in
@@ -194,18 +189,18 @@ way_smaller shape seen run old new tally place answer way first step =
     let (held, answered) = step shape seen now way.held in
     let later : undelivered (deliver_step shape place now).run ≡ rest =
     ap (λ (s : StepResult). undelivered s.run) stepped ∙ waiting_rest (failed_in now) now.sent place now.delivered rest waits in
-    let before : still_waiting old.outbox ≡ suc (length rest) = still_waiting_is old.outbox now.sent now.delivered (failed_in now) way.held.outbox ∙ ap length waits in
+    let before : still_waiting old.nodes.outbox ≡ suc (length rest) = still_waiting_is old.nodes.outbox now.sent now.delivered (failed_in now) way.held.net.outbox ∙ ap length waits in
     let run_after : Progress = (deliver_step shape place now).run in
-    let after : still_waiting new.outbox ≡ length rest = still_waiting_is new.outbox run_after.sent run_after.delivered (failed_in run_after) held.outbox ∙ ap length later in
+    let after : still_waiting new.nodes.outbox ≡ length rest = still_waiting_is new.nodes.outbox run_after.sent run_after.delivered (failed_in run_after) held.net.outbox ∙ ap length later in
     omega arith
 
--- as many wait when the outbox was looked at
+-- as many wait after the nodes were asked
 pub waits_same : (shape : Shape) (seen : ℕ → List ℕ) (run : Progress) (old new : Site) (tally : Tally) (way : IsOnTheWay shape seen run old tally) (looked : IsOnTheWay shape seen run new tally) → looked.now ≡ way.now →
-    still_waiting new.outbox ≡ still_waiting old.outbox
+    still_waiting new.nodes.outbox ≡ still_waiting old.nodes.outbox
 waits_same shape seen run old new tally way looked same =
-    still_waiting_is new.outbox looked.now.sent looked.now.delivered (failed_in looked.now) looked.held.outbox
+    still_waiting_is new.nodes.outbox looked.now.sent looked.now.delivered (failed_in looked.now) looked.held.net.outbox
     ∙ ap (λ (p : Progress). length (undelivered p)) same
-    ∙ sym (still_waiting_is old.outbox way.now.sent way.now.delivered (failed_in way.now) way.held.outbox)
+    ∙ sym (still_waiting_is old.nodes.outbox way.now.sent way.now.delivered (failed_in way.now) way.held.net.outbox)
 
 -- none waits any more
 pub way_ends : (shape : Shape) (seen : ℕ → List ℕ) (run : Progress) (site : Site) (tally : Tally) (way : IsOnTheWay shape seen run site tally) →

@@ -11,11 +11,11 @@ use Rattle.rb_message_defs.specs.declared.answers.Received.{Received}
 use Rattle.rb_message_defs.specs.Message.{bucket_in}
 use Rattle.rb_message_defs.specs.Received.{Fed, answer_to}
 use Rattle.rb_evbuf.specs.Buffer.{StandsFor, buckets_of}
-use Rattle.rb_play_defs.specs.Step.{Progress, StepResult, unchanged, fed_by, delivered_message, answer_outcome, deliver_step, failed_in}
+use Rattle.rb_play_defs.specs.Step.{Progress, StepResult, unchanged, fed_by, delivered_message, answer_outcome, deliver_step}
 use Rattle.rb_play_defs.specs.Sound.{IsOwn}
 use Rattle.rb_play_defs.proofs.Takes.{of_sent, sound_delivered}
-use Rattle.rb_site.specs.Outbox.{HoldsSent, count_in, nodes_in}
-use Rattle.rb_site.specs.Site.{IsSite}
+use Rattle.rb_nodes.specs.Net.{Net, HoldsNet, count_in, delivered_net}
+use Rattle.rb_site.specs.Site.{IsSite, net_of}
 use Rattle.rb_site.specs.declared.site.Site.{Site}
 
 -- what stands at a place
@@ -28,9 +28,9 @@ some_message sent place message is = go (slice_get sent place) refl
 
 -- a message that was sent is of a bucket of the event buffer
 pub bucket_fits : (shape : Shape) (site : Site) (seen : ℕ → List ℕ) (run : Progress) (place : ℕ) (message : Message) → IsSite shape site seen run →
-    ((ss : List Sent) (ds : List ℕ) (failed_at : ℕ → ℕ) → HoldsSent site.outbox ss ds failed_at → option_map (λ sent. sent.message) (slice_get ss place) ≡ Some message) → bucket_in message < buckets_of site.events
+    ((b : ℕ) (n : Net) → HoldsNet site.nodes b n → option_map (λ sent. sent.message) (slice_get n.sent place) ≡ Some message) → bucket_in message < buckets_of site.events
 bucket_fits shape site seen run place message held is =
-    let (at, there, same) = some_message run.sent place message (is run.sent run.delivered (failed_in run) held.outbox) in
+    let (at, there, same) = some_message run.sent place message (is shape.buckets (net_of shape run) held.net) in
     let own = of_sent (λ (s : Sent). IsOwn shape run.journal s.message) run.sent place at held.sound.sent there in
     let b : bucket_in at.message < shape.buckets = own.0 in
     let m : bucket_in at.message ≡ bucket_in message = ap bucket_in same in
@@ -44,18 +44,17 @@ deliver_there shape run place at there = ap (λ (x : Option Sent). option_map_or
 
 -- a site that a message reached, however its parts are made
 pub site_delivered : (shape : Shape) (old new : Site) (seen : ℕ → List ℕ) (run : Progress) (place : ℕ) (message : Message) (answer : Received) → IsSite shape old seen run →
-    ((ss : List Sent) (ds : List ℕ) (failed_at : ℕ → ℕ) → HoldsSent old.outbox ss ds failed_at → option_map (λ sent. sent.message) (slice_get ss place) ≡ Some message) →
-    ((ss : List Sent) (ds : List ℕ) (failed_at : ℕ → ℕ) → HoldsSent old.outbox ss ds failed_at → HoldsSent new.outbox ss (place ∷ ds) failed_at) →
-    nodes_in new.outbox ≡ nodes_in old.outbox →
+    ((b : ℕ) (n : Net) → HoldsNet old.nodes b n → option_map (λ sent. sent.message) (slice_get n.sent place) ≡ Some message) →
+    ((b : ℕ) (n : Net) → HoldsNet old.nodes b n → HoldsNet new.nodes b (delivered_net place n)) →
     ((fed : Fed) → StandsFor old.events fed → answer ≡ answer_to fed message) →
     ((fed : Fed) → StandsFor old.events fed → StandsFor new.events (record fed { received = message ∷ fed.received })) →
-    new ≡ record old { outbox = new.outbox; events = new.events } →
+    new ≡ record old { nodes = new.nodes; events = new.events } →
     IsSite shape new seen (deliver_step shape place run).run × (answer_outcome answer ≡ (deliver_step shape place run).outcome)
-site_delivered shape old new seen run place message answer held is outbox senders answers events rest =
-    let (at, there, same) = some_message run.sent place message (is run.sent run.delivered (failed_in run) held.outbox) in
+site_delivered shape old new seen run place message answer held is nodes answers events rest =
+    let (at, there, same) = some_message run.sent place message (is shape.buckets (net_of shape run) held.net) in
     let step = deliver_there shape run place at there in
     let m : message ≡ at.message = sym same in
-    let after : IsSite shape (record old { outbox = new.outbox; events = new.events }) seen (delivered_message place at.message run) = record {
+    let after : IsSite shape (record old { nodes = new.nodes; events = new.events }) seen (delivered_message place at.message run) = record {
       declared = held.declared;
       sound = sound_delivered shape place run at held.sound there;
       fits = held.fits;
@@ -64,11 +63,8 @@ site_delivered shape old new seen run place message answer held is outbox sender
       clock = held.clock;
       rows = held.rows;
       count = held.count;
-      nodes = held.nodes;
+      net = nodes shape.buckets (net_of shape run) held.net;
       covered = held.covered;
-      lost = held.lost;
-      outbox = outbox run.sent run.delivered (failed_in run) held.outbox;
-      senders = senders ∙ held.senders;
       events = subst (λ (m : Message). StandsFor new.events (record { buckets = shape.buckets; last = run.last; received = m ∷ run.received })) m (events (fed_by shape run) held.events);
       log = held.log;
       made = held.made;
@@ -84,11 +80,11 @@ none_there [] place over = refl
 none_there (s ∷ sent) zero over = absurd (omega arith)
 none_there (s ∷ sent) (suc place) over = none_there sent place (omega arith)
 
-pub not_delivered : (shape : Shape) (site : Site) (seen : ℕ → List ℕ) (run : Progress) (place count : ℕ) → IsSite shape site seen run → count ≡ count_in site.outbox → count ≤ place →
+pub not_delivered : (shape : Shape) (site : Site) (seen : ℕ → List ℕ) (run : Progress) (place count : ℕ) → IsSite shape site seen run → count ≡ count_in site.nodes → count ≤ place →
     IsSite shape site seen (deliver_step shape place run).run × (outcomes.NoMessage place count ≡ (deliver_step shape place run).outcome)
 unfolding deliver_step
 not_delivered shape site seen run place count held is over =
-    let n : count ≡ length run.sent = is ∙ ap length held.outbox.sent_is in
+    let n : count ≡ length run.sent = is ∙ ap length held.net.outbox.sent_is in
     let step : deliver_step shape place run ≡ unchanged run (outcomes.NoMessage place (length run.sent)) =
     ap (λ (x : Option Sent). option_map_or (λ sent. record { run = delivered_message place sent.message run; outcome = answer_outcome (answer_to (fed_by shape run) sent.message) }) x (unchanged run (outcomes.NoMessage place (length run.sent)))) (none_there run.sent place (omega arith)) in
     (subst (λ (s : StepResult). IsSite shape site seen s.run) (sym step) held, ap (outcomes.NoMessage place) n ∙ sym (ap (λ (s : StepResult). s.outcome) step))

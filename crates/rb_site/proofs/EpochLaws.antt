@@ -21,10 +21,10 @@ use Rattle.rb_play_defs.specs.Sound.{IsSound}
 use Rattle.rb_play_defs.proofs.Covering.{IsCovered, covered_taken, acknowledged_below}
 use Rattle.rb_play_defs.proofs.Takes.{sound_taken}
 use Rattle.rb_site.specs.Inject.{IsInjectorAt, HasTaken}
-use Rattle.rb_site.specs.Nodes.{Buffered, HoldsNodes, with_acknowledged, CanAcknowledge}
-use Rattle.rb_site.specs.Site.{IsSite, buffered_by, setup_of, most_made}
+use Rattle.rb_nodes.specs.Net.{Net, HoldsNet, acknowledged_net, CanAcknowledge}
+use Rattle.rb_site.specs.Site.{IsSite, net_of, net_at, setup_of, most_made}
 use Rattle.rb_site.specs.Stepped.{IsStoppedSite, site_of}
-use Rattle.rb_site.specs.declared.nodes.Nodes.{Nodes}
+use Rattle.rb_nodes.specs.declared.site_nodes.SiteNodes.{SiteNodes}
 use Rattle.rb_site.specs.declared.stepped.StoppedSite.{StoppedSite}
 use Rattle.rb_site.proofs.InjectLaws.{written_small}
 use Rattle.rb_site.proofs.LogLaws.{written_epoch}
@@ -116,12 +116,12 @@ pub can_acknowledge : (shape : Shape) (rest : StoppedSite) (events : EventBuffer
 can_acknowledge shape rest events its seen run held turned =
     let is = written_epoch its (setup_of shape its) (written_bodies shape (injected shape run)) seen turned.log in
     let below = acknowledged_below shape (injected shape run) turned.sound in
-    (shape.buckets, buffered_by shape run, held.nodes, omega arith)
+    (shape.buckets, net_of shape run, held.net, omega arith)
 
 -- and were
-pub rest_turned : (shape : Shape) (rest : StoppedSite) (nodes : Nodes) (events : EventBuffer) (its : Injector) (seen : ℕ → List ℕ) (run : Progress) (through : ℕ) → IsStoppedSite shape rest run → IsInjectorAt shape events its seen (injected shape run) →
+pub rest_turned : (shape : Shape) (rest : StoppedSite) (nodes : SiteNodes) (events : EventBuffer) (its : Injector) (seen : ℕ → List ℕ) (run : Progress) (through : ℕ) → IsStoppedSite shape rest run → IsInjectorAt shape events its seen (injected shape run) →
     through ≡ inject.written_of its →
-    ((buckets : ℕ) (site : Buffered) → HoldsNodes rest.nodes buckets site → HoldsNodes nodes buckets (with_acknowledged (max site.acknowledged through) site)) →
+    ((b : ℕ) (n : Net) → HoldsNet rest.nodes b n → HoldsNet nodes b (acknowledged_net through n)) →
     IsStoppedSite shape (record rest { nodes = nodes }) (injected shape run)
 rest_turned shape rest nodes events its seen run through held turned is told =
     let keeps = turn_keeps shape run (takeable shape run) held.sound refl (run_covered shape run held.covered) in
@@ -135,11 +135,8 @@ rest_turned shape rest nodes events its seen run through held turned is told =
       clock = held.clock;
       rows = held.rows;
       count = held.count;
-      nodes = subst (λ (epoch : ℕ). HoldsNodes nodes shape.buckets (with_acknowledged epoch (buffered_by shape run))) (ap (max (acknowledged_epoch shape run)) last ∙ max-eq_right keeps.1) (told shape.buckets (buffered_by shape run) held.nodes);
+      net = subst (λ (epoch : ℕ). HoldsNet nodes shape.buckets (net_at epoch shape run)) (ap (max (acknowledged_epoch shape run)) last ∙ max-eq_right keeps.1) (told shape.buckets (net_of shape run) held.net);
       covered = owners_covered shape (injected shape run) keeps.0;
-      lost = held.lost;
-      outbox = held.outbox;
-      senders = held.senders;
       made = held.made;
       few = held.few;
     }

@@ -1,15 +1,6 @@
-pub mod Keys
 pub mod ShareLaws
-pub mod CommitLaws
-pub mod NewLaws
 pub mod RowLaws
 pub mod BodyLaws
-pub mod OutboxLaws
-pub mod NodeLaws
-pub mod MemberLaws
-pub mod GroupLaws
-pub mod SweepLaws
-pub mod SendLaws
 pub mod PointLaws
 pub mod AgainLaws
 pub mod TxLaws

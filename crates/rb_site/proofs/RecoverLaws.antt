@@ -19,17 +19,16 @@ use Rattle.rb_evbuf.specs.declared.buffer.EventBuffer.{EventBuffer}
 use Rattle.rb_inject.specs.Injector as inject
 use Rattle.rb_inject.specs.Injector.{CanBeRecovered}
 use Rattle.rb_inject.specs.declared.injector.Injector.{Injector}
-use Rattle.rb_play_defs.specs.Step.{Progress, failed_in, acknowledged_epoch, sent_by_owners, sent_to_injector, with_new_injector, injector_step, resend_step, written_bodies}
+use Rattle.rb_play_defs.specs.Step.{Progress, acknowledged_epoch, sent_by_owners, sent_to_injector, with_new_injector, injector_step, resend_step, written_bodies}
 use Rattle.rb_play_defs.proofs.Sounds.{sound_resend}
 use Rattle.rb_play_defs.proofs.Restarts.{sound_injector}
-use Rattle.rb_site.specs.Nodes as site
-use Rattle.rb_site.specs.Nodes.{Buffered, HoldsNodes, CanCount, CanResend}
-use Rattle.rb_site.specs.Outbox.{HoldsSent, count_in, nodes_in}
-use Rattle.rb_site.specs.Site.{IsSite, SameSetup, buffered_by, loss_of, opened_of, limit_of, setup_of}
+use Rattle.rb_nodes.specs.Nodes.{CanCount}
+use Rattle.rb_nodes.specs.Net.{Net, HoldsNet, SameSize, buckets_in, groups_in, replicas_in, count_in, lost_in, loss_of, resent_net, CanResend}
+use Rattle.rb_site.specs.Site.{IsSite, SameSetup, buffered_by, net_of, opened_of, limit_of, setup_of}
 use Rattle.rb_site.specs.Stepped.{IsStoppedSite, HasSameSetup, rest_of, site_of}
 use Rattle.rb_site.specs.declared.site.Site.{Site}
 use Rattle.rb_site.specs.declared.stepped.StoppedSite.{StoppedSite}
-use Rattle.rb_site.proofs.AgainLaws.{sent_resending, resend_senders}
+use Rattle.rb_site.proofs.FailLaws.{net_resent}
 use Rattle.rb_site.proofs.LogLaws.{log_named, written_epoch, can_be_recovered}
 use Rattle.rb_site.proofs.StandLaws.{site_stands}
 
@@ -44,35 +43,22 @@ again_where shape run lost is = ap (λ (l : Option (ℕ × ℕ)). option_map_or 
 
 -- what a resend needs
 pub rest_can_resend : (shape : Shape) (rest : StoppedSite) (run : Progress) → IsStoppedSite shape rest run → run.lost ≡ None → CanResend rest.nodes
-rest_can_resend shape rest run held none = (shape.buckets, buffered_by shape run, held.nodes, held.covered none, counted)
+rest_can_resend shape rest run held none = (shape.buckets, net_of shape run, held.net, held.covered none, counted)
   where
     counted : CanCount (buffered_by shape run)
     counted epoch = omega (arith, epoch_length shape.site epoch run.journal, held.made, held.few)
 
-pub none_lost_of : (shape : Shape) (rest : StoppedSite) (run : Progress) → IsStoppedSite shape rest run → rest.lost ≡ None → run.lost ≡ None
-none_lost_of shape rest run held none = sym held.lost ∙ ap loss_of none
-
-resending_is : (shape : Shape) (rest : StoppedSite) (run : Progress) (messages : List Sent) → IsStoppedSite shape rest run →
-    ((b : ℕ) (s : Buffered) → HoldsNodes rest.nodes b s → messages ≡ site.sent_at_resend b s (length rest.nodes.groups.items)) → messages ≡ sent_by_owners shape run
-resending_is shape rest run messages held sends = sends shape.buckets (buffered_by shape run) held.nodes ∙ sent_resending shape run rest.nodes held.nodes
-
--- who sends is one of the nodes
-pub rest_senders : (shape : Shape) (rest : StoppedSite) (run : Progress) (messages : List Sent) → IsStoppedSite shape rest run →
-    ((b : ℕ) (s : Buffered) → HoldsNodes rest.nodes b s → messages ≡ site.sent_at_resend b s (length rest.nodes.groups.items)) → AllByRecursion (λ message. message.sender < nodes_in rest.outbox) messages
-rest_senders shape rest run messages held sends =
-    subst (λ (n : ℕ). AllByRecursion (λ (message : Sent). message.sender < n) messages) (sym held.senders)
-    (subst (AllByRecursion (λ (message : Sent). message.sender < shape.buckets)) (sym (resending_is shape rest run messages held sends)) (resend_senders shape run rest.nodes held.nodes))
+pub none_lost_of : (shape : Shape) (rest : StoppedSite) (run : Progress) → IsStoppedSite shape rest run → lost_in rest.nodes ≡ None → run.lost ≡ None
+none_lost_of shape rest run held none = sym held.net.lost ∙ ap loss_of none
 
 -- all owners resent
-pub rest_resent : (shape : Shape) (old new : StoppedSite) (run : Progress) (messages : List Sent) → IsStoppedSite shape old run → old.lost ≡ None →
-    ((b : ℕ) (s : Buffered) → HoldsNodes old.nodes b s → messages ≡ site.sent_at_resend b s (length old.nodes.groups.items)) →
-    ((ss : List Sent) (ds : List ℕ) (fa : ℕ → ℕ) → HoldsSent old.outbox ss ds fa → HoldsSent new.outbox (ss ++ messages) ds fa) →
-    nodes_in new.outbox ≡ nodes_in old.outbox → new ≡ record old { outbox = new.outbox } → IsStoppedSite shape new (record run { sent = run.sent ++ sent_to_injector shape run })
+pub rest_resent : (shape : Shape) (old new : StoppedSite) (run : Progress) → IsStoppedSite shape old run → lost_in old.nodes ≡ None →
+    ((b : ℕ) (n : Net) → HoldsNet old.nodes b n → HoldsNet new.nodes b (resent_net b n)) → new ≡ record old { nodes = new.nodes } → IsStoppedSite shape new (record run { sent = run.sent ++ sent_to_injector shape run })
 unfolding resend_step
-rest_resent shape old new run messages held none sends outbox senders rest =
+rest_resent shape old new run held none sends rest =
     let sent : sent_to_injector shape run ≡ sent_by_owners shape run = again_where shape run None (none_lost_of shape old run held none) in
     let after : Progress = record run { sent = run.sent ++ sent_by_owners shape run } in
-    let there : IsStoppedSite shape (record old { outbox = new.outbox }) after = record {
+    let there : IsStoppedSite shape (record old { nodes = new.nodes }) after = record {
       declared = held.declared;
       sound = sound_resend shape run held.sound;
       fits = held.fits;
@@ -81,11 +67,8 @@ rest_resent shape old new run messages held none sends outbox senders rest =
       clock = held.clock;
       rows = held.rows;
       count = held.count;
-      nodes = held.nodes;
+      net = subst (HoldsNet new.nodes shape.buckets) (net_resent shape run held.sound) (sends shape.buckets (net_of shape run) held.net);
       covered = held.covered;
-      lost = held.lost;
-      outbox = subst (λ (ms : List Sent). HoldsSent new.outbox (run.sent ++ ms) run.delivered (failed_in run)) (resending_is shape old run messages held sends) (outbox run.sent run.delivered (failed_in run) held.outbox);
-      senders = senders ∙ held.senders;
       made = held.made;
       few = held.few;
     } in
@@ -94,8 +77,8 @@ rest_resent shape old new run messages held none sends outbox senders rest =
 
 -- the site with its new injector, and the outcome
 pub site_recovered : (shape : Shape) (old new : StoppedSite) (events : EventBuffer) (its : Injector) (seen : ℕ → List ℕ) (run : Progress) (buckets : ℕ) (written : Epoch) (sent : ℕ) → IsStoppedSite shape old run →
-    IsStoppedSite shape new (record run { sent = run.sent ++ sent_to_injector shape run }) → inject.StandsFor its (setup_of shape its) (written_bodies shape run) seen → written.0 ≡ inject.written_of its → buckets ≡ old.nodes.buckets →
-    StandsFor events (record { buckets = buckets; last = written.0; received = [] }) → sent ≡ count_in new.outbox →
+    IsStoppedSite shape new (record run { sent = run.sent ++ sent_to_injector shape run }) → inject.StandsFor its (setup_of shape its) (written_bodies shape run) seen → written.0 ≡ inject.written_of its → buckets ≡ buckets_in old.nodes →
+    StandsFor events (record { buckets = buckets; last = written.0; received = [] }) → sent ≡ count_in new.nodes →
     IsSite shape (site_of new events its) seen (injector_step shape run).run × (outcomes.Recovered written sent ≡ (injector_step shape run).outcome)
 unfolding injector_step
 site_recovered shape old new events its seen run buckets written sent before held log last all fed count =
@@ -109,18 +92,15 @@ site_recovered shape old new events its seen run buckets written sent before hel
       clock = held.clock;
       rows = held.rows;
       count = held.count;
-      nodes = held.nodes;
+      net = held.net;
       covered = held.covered;
-      lost = held.lost;
-      outbox = held.outbox;
-      senders = held.senders;
       made = held.made;
       few = held.few;
     } in (
       site_stands shape new events its seen (with_new_injector shape run) after
           (subst (λ (epoch : ℕ). StandsFor events (record { buckets = shape.buckets; last = epoch; received = [] })) through
-          (subst (λ (n : ℕ). StandsFor events (record { buckets = n; last = written.0; received = [] })) (all ∙ before.nodes.buckets_are) fed)) log,
-      ap (λ (n : ℕ). outcomes.Recovered (record { 0 = n }) sent) through ∙ ap (outcomes.Recovered (record { 0 = acknowledged_epoch shape run })) (count ∙ ap length held.outbox.sent_is),
+          (subst (λ (n : ℕ). StandsFor events (record { buckets = n; last = written.0; received = [] })) (all ∙ before.net.groups.buckets_are) fed)) log,
+      ap (λ (n : ℕ). outcomes.Recovered (record { 0 = n }) sent) through ∙ ap (outcomes.Recovered (record { 0 = acknowledged_epoch shape run })) (count ∙ ap length held.net.outbox.sent_is),
     )
 
 -- the tables and the limit of what is left, and its log, by other names
@@ -156,7 +136,11 @@ image_stands shape old rest tables its seen now run is held log = image_left sha
 -- the same number of groups and nodes, and the same limit
 pub setup_stays : (old new : Site) (rest : StoppedSite) (its : Injector) → rest ≡ rest_of old → inject.limit_of its ≡ rest.limit → HasSameSetup rest its new → SameSetup old new
 setup_stays old new rest its is limit (groups, replicas, same) = (
-  groups ∙ ap (λ (r : StoppedSite). length r.nodes.groups.items) is,
-  replicas ∙ ap (λ (r : StoppedSite). r.nodes.replicas) is,
+  groups ∙ ap (λ (r : StoppedSite). groups_in r.nodes) is,
+  replicas ∙ ap (λ (r : StoppedSite). replicas_in r.nodes) is,
   same ∙ limit ∙ ap (λ (r : StoppedSite). r.limit) is,
 )
+
+-- a new site of the same numbers, after its owners resent
+pub setup_again : (old new : StoppedSite) (its : Injector) (site : Site) → SameSize old.nodes new.nodes → HasSameSetup new its site → HasSameSetup old its site
+setup_again old new its site size (groups, replicas, same) = (groups ∙ size.0, replicas ∙ size.1, same)

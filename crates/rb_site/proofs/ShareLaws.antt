@@ -1,64 +1,18 @@
--- The share of a group says what the run says: the same needed epoch, the same nodes that cover,
--- and the same messages.
-use Rattle.std.proofs.Common.{◌≡◌, ℕ, zero, suc, ◌+◌, ◌*◌, ◌-◌, ◌<◌, ◌≤◌, Bool, true, false, cond, List, [], ◌∷◌, ◌++◌, length, map, filter, refl, sym, ap, ◌∙◌, arith}
-use Rattle.std.specs.Prelude.{◌==◌, ◌&&◌, nat_le, nat_lt, if◌then◌else◌, Option, Some, None, unwrap_or}
-use Rattle.std.specs.Option.{option_map_or}
-use Rattle.std.specs.List.{enumerate_from, find, flat_map, list_any, slice_get}
+-- The share of a group says what the run says: the same needed epoch, and the same messages.
+use Rattle.std.proofs.Common.{◌≡◌, ℕ, Bool, true, false, cond, List, [], ◌∷◌, ◌++◌, length, map, filter, refl, ap, ◌∙◌}
+use Rattle.std.specs.Prelude.{◌==◌, nat_lt, if◌then◌else◌, unwrap_or}
+use Rattle.std.specs.List.{enumerate_from, find, flat_map, list_any}
 use Rattle.rb_base.specs.declared.change.Change.{Change}
 use Rattle.rb_base.specs.declared.message.Message.{Message}
 use Rattle.rb_base.specs.declared.message.Message.TheVariants.{Part, Done}
 use Rattle.rb_journal_defs.specs.Journal.{Journal, closed_epochs, previous_closed}
-use Rattle.rb_journal_defs.specs.Body.{Shape, part_of, in_bucket, changes_in, numbers_below}
-use Rattle.rb_message_defs.specs.Message.{done_message, home_node}
-use Rattle.rb_message_defs.specs.Nodes.{Node, node_at, owner_in, numbers_in, covers, part_messages, messages_of, unacknowledged}
-use Rattle.rb_bucket.specs.declared.bucket.BucketBuffer.{BucketBuffer}
-use Rattle.rb_group.specs.Kept as group
-use Rattle.rb_group.specs.Kept.{Kept, HoldsNode, needed_in, parts_in, done_in, unacknowledged_in}
-use Rattle.rb_group.specs.Group.{Keeps}
-use Rattle.rb_group.specs.declared.group.Group.{Group}
-use Rattle.rb_message_defs.proofs.Numbers.{number_at}
+use Rattle.rb_journal_defs.specs.Body.{Shape, part_of, in_bucket, changes_in}
+use Rattle.rb_message_defs.specs.Message.{done_message}
+use Rattle.rb_message_defs.specs.Nodes.{numbers_in, part_messages, messages_of, unacknowledged}
+use Rattle.rb_group.specs.Kept.{Kept, needed_in, parts_in, done_in, unacknowledged_in}
 use Rattle.rb_play_defs.specs.Step.{Progress, needed_of, acknowledged_epoch}
-use Rattle.rb_site.specs.Nodes.{Buffered, needed_by, since_of, kept_in, share_of}
+use Rattle.rb_nodes.specs.Nodes.{kept_in, share_of}
 use Rattle.rb_site.specs.Site.{buffered_by}
-
--- the same changes, said otherwise
-abbrev Same : Kept → (changes : (epoch bucket : ℕ) → List Change) → Type 0
-Same kept changes = (epoch bucket : ℕ) → kept.changes epoch bucket ≡ changes epoch bucket
-
--- a node holds the same
-same_node : (kept : Kept) (changes : (epoch bucket : ℕ) → List Change) (buffer : Option BucketBuffer) (since : Option ℕ) → Same kept changes →
-    HoldsNode buffer since kept → HoldsNode buffer since (record kept { changes = changes })
-same_node kept changes None None same held = held
-same_node kept changes None (Some since) same held = held
-same_node kept changes (Some buffer) None same held = held
-same_node kept changes (Some buffer) (Some since) same held = record {
-  changes = λ e b. held.changes e b ∙ ap (λ (cs : List Change). if nat_le since e && nat_lt kept.acknowledged e then cs else []) (same e b);
-  closes = held.closes;
-  since_is = held.since_is;
-  buckets = held.buckets;
-}
-
--- and so does a group
-pub keeps_same : (group : Group) (kept : Kept) (changes : (epoch bucket : ℕ) → List Change) → Same kept changes → Keeps group kept → Keeps group (record kept { changes = changes })
-keeps_same group kept changes same keeps = record {
-  first = keeps.first;
-  opened = keeps.opened;
-  acknowledged = keeps.acknowledged;
-  count = keeps.count;
-  nodes = λ k buffer since is there. same_node kept changes buffer since same (keeps.nodes k buffer since is there);
-  owners = keeps.owners;
-  owner_count = keeps.owner_count;
-  owners_in = keeps.owners_in;
-  some = keeps.some;
-  fits = keeps.fits;
-  order = record {
-    closes = keeps.order.closes;
-    acknowledged = keeps.order.acknowledged;
-    later = λ e b l. sym (same e b) ∙ keeps.order.later e b l;
-  };
-  closed = keeps.closed;
-  countable = keeps.countable;
-}
 
 -- the closed epochs after a journal's closes
 epochs_of_closes : (j : Journal) (es : List ℕ) → map (λ (close : ℕ × ℕ). close.0) (map (λ epoch. (epoch, previous_closed epoch j)) es) ≡ es
@@ -112,41 +66,3 @@ unacknowledged_share shape run number bucket is =
         go true rest = ap (λ (ms : List Message). ms ++ flat_map told (filter (λ close. nat_lt a close.0) (map (λ epoch. (epoch, previous_closed epoch run.journal)) es))) (one e)
             ∙ ap (λ (ms : List Message). messages_of shape bucket run.journal e ++ ms) rest
         go false rest = rest
-
-pub get_map : {X : Type 0} (f : ℕ → X) (xs : List ℕ) (k x : ℕ) → slice_get xs k ≡ Some x → slice_get (map f xs) k ≡ Some (f x)
-get_map f [] k x there = absurd (let g : None ≡ Some x = there in cc)
-get_map f (y ∷ xs) zero x there = ap Some (ap f (let g : Some y ≡ Some x = there in cc))
-get_map f (y ∷ xs) (suc k) x there = get_map f xs k x there
-
--- the item at the place of a number of a group
-pub at_number : {X : Type 0} (f : ℕ → X) (first n number : ℕ) → first ≤ number → number < first + n → slice_get (map f (map (λ step. first + step) (numbers_below n))) (number - first) ≡ Some (f number)
-at_number f first n number from below =
-    let same : first + (number - first) ≡ number = omega arith in
-    get_map f (map (λ step. first + step) (numbers_below n)) (number - first) number
-    (get_map (λ step. first + step) (numbers_below n) (number - first) (number - first) (number_at n (number - first) (omega arith)) ∙ ap (λ (x : ℕ). Some x) same)
-
--- a share has the site's owners
-pub owner_share : (buckets : ℕ) (site : Buffered) (number bucket : ℕ) → number * site.members.replicas ≤ bucket → bucket < number * site.members.replicas + site.members.replicas →
-    group.owner_in (share_of buckets site number) bucket ≡ owner_in site.members bucket
-owner_share buckets site number bucket from below =
-    ap (λ (o : Option ℕ). unwrap_or o (home_node bucket)) (at_number (owner_in site.members) (number * site.members.replicas) site.members.replicas bucket from below)
-
--- its nodes buffer from the same epochs on
-pub since_share : (buckets : ℕ) (site : Buffered) (number node : ℕ) → number * site.members.replicas ≤ node → node < number * site.members.replicas + site.members.replicas →
-    group.since_in (share_of buckets site number) node ≡ since_of (node_at site.members node)
-since_share buckets site number node from below =
-    ap (λ (o : Option (Option ℕ)). unwrap_or o None) (at_number (λ other. since_of (node_at site.members other)) (number * site.members.replicas) site.members.replicas node from below)
-
--- and the same ones cover
-pub covers_share : (buckets : ℕ) (site : Buffered) (number node : ℕ) → number * site.members.replicas ≤ node → node < number * site.members.replicas + site.members.replicas →
-    group.covers_in (share_of buckets site number) node ≡ covers (needed_by site) (node_at site.members node)
-covers_share buckets site number node from below =
-    ap (λ (since : Option ℕ). option_map_or (λ since. nat_le since (needed_by site)) since false) (since_share buckets site number node from below)
-    ∙ go (node_at site.members node)
-  where
-    go : (n : Node) → option_map_or (λ since. nat_le since (needed_by site)) (since_of n) false ≡ covers (needed_by site) n
-    go n = by_up n.up
-      where
-        by_up : (up : Bool) → option_map_or (λ since. nat_le since (needed_by site)) (if up then Some n.since else None) false ≡ (up && nat_le n.since (needed_by site))
-        by_up true = refl
-        by_up false = refl

@@ -17,12 +17,13 @@ use Rattle.rb_base.specs.declared.memory.NoMemory.{NoMemory}
 use Rattle.rb_device_defs.specs.Image.{IsLogImage}
 use Rattle.rb_device_defs.proofs.ImageLaws.{whole_is_image}
 use Rattle.rb_play_defs.specs.UnfinishedLog.{HoldsUnfinishedLog}
-use Rattle.rb_site.specs.Site.{IsSite, loss_of, limit_of, needs_all_groups, uses_device}
+use Rattle.rb_base.specs.declared.epoch.Epoch.{Epoch}
+use Rattle.rb_nodes.specs.Net.{lost_in, loss_of}
+use Rattle.rb_site.specs.Site.{IsSite, limit_of, needs_all_groups, uses_device}
 use Rattle.rb_site.specs.Stepped.{IfOn, IfStopped, IsStopped, stepped_of}
 use Rattle.rb_site.specs.declared.stepped.Stepped.{Stepped}
 use Rattle.rb_site.specs.declared.stepped.Stepped.TheVariants as steps
 use Rattle.rb_site.specs.declared.stepped.StoppedSite.{StoppedSite}
-use Rattle.rb_site.specs.declared.site.Loss.{Loss}
 use Rattle.rb_site.specs.declared.site.Site.{Site}
 use Rattle.rb_site.proofs.TakeLaws.{part_of}
 
@@ -83,11 +84,11 @@ is_resend shape run event is none = ap (site_step shape run) is ∙ not_lost run
 
 -- an event that needs all groups finds none lost, if the site refuses it for no loss
 pub none_lost : (shape : Shape) (site : Site) (seen : ℕ → List ℕ) (run : Progress) (event same : SiteEvent) → IsSite shape site seen run → event ≡ same → needs_all_groups same ≡ true →
-    None ≡ (if needs_all_groups event then site.lost else None) → run.lost ≡ None
+    None ≡ (if needs_all_groups event then lost_in site.nodes else None) → run.lost ≡ None
 none_lost shape site seen run event same held is needs none =
     let all : needs_all_groups event ≡ true = ap needs_all_groups is ∙ needs in
-    let here : site.lost ≡ None = sym (none ∙ ap (λ (b : Bool). if b then site.lost else None) all) in
-    sym held.lost ∙ ap loss_of here
+    let here : lost_in site.nodes ≡ None = sym (none ∙ ap (λ (b : Bool). if b then lost_in site.nodes else None) all) in
+    sym held.net.lost ∙ ap loss_of here
 
 -- an event at a lost site
 lost_before : (run : Progress) (step : play.StepResult) (group epoch : ℕ) → run.lost ≡ Some (group, epoch) → unless_lost run step ≡ unchanged run (outcomes.SiteLost group (record { 0 = epoch }))
@@ -105,14 +106,14 @@ refused_where shape run happenings.DeliverAll group epoch needs lost = absurd (l
 refused_where shape run happenings.Inject group epoch needs lost = absurd (let no : false ≡ true = needs in cc)
 refused_where shape run happenings.Injector group epoch needs lost = absurd (let no : false ≡ true = needs in cc)
 
-pub site_lost : (shape : Shape) (site : Site) (seen : ℕ → List ℕ) (run : Progress) (event : SiteEvent) (loss : Loss) → IsSite shape site seen run → Some loss ≡ (if needs_all_groups event then site.lost else None) →
-    IsSite shape site seen (site_step shape run event).run × (outcomes.SiteLost loss.group loss.epoch ≡ (site_step shape run event).outcome)
+pub site_lost : (shape : Shape) (site : Site) (seen : ℕ → List ℕ) (run : Progress) (event : SiteEvent) (loss : ℕ × Epoch) → IsSite shape site seen run → Some loss ≡ (if needs_all_groups event then lost_in site.nodes else None) →
+    IsSite shape site seen (site_step shape run event).run × (outcomes.SiteLost loss.0 loss.1 ≡ (site_step shape run event).outcome)
 site_lost shape site seen run event loss held is = go (needs_all_groups event) refl is
   where
-    go : (b : Bool) → needs_all_groups event ≡ b → Some loss ≡ (if b then site.lost else None) → IsSite shape site seen (site_step shape run event).run × (outcomes.SiteLost loss.group loss.epoch ≡ (site_step shape run event).outcome)
+    go : (b : Bool) → needs_all_groups event ≡ b → Some loss ≡ (if b then lost_in site.nodes else None) → IsSite shape site seen (site_step shape run event).run × (outcomes.SiteLost loss.0 loss.1 ≡ (site_step shape run event).outcome)
     go true needs here =
-        step_is shape run event (unchanged run (outcomes.SiteLost loss.group loss.epoch)) site seen (outcomes.SiteLost loss.group loss.epoch)
-        (refused_where shape run event loss.group loss.epoch.0 needs (sym held.lost ∙ ap loss_of (sym here))) (held, refl)
+        step_is shape run event (unchanged run (outcomes.SiteLost loss.0 loss.1)) site seen (outcomes.SiteLost loss.0 loss.1)
+        (refused_where shape run event loss.0 loss.1.0 needs (sym held.net.lost ∙ ap loss_of (sym here))) (held, refl)
     go false needs here = absurd (let no : Some loss ≡ None = here in cc)
 
 -- what `inject` leaves is what its step leaves

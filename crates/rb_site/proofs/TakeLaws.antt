@@ -27,7 +27,7 @@ use Rattle.rb_play_defs.specs.UnfinishedLog.{HoldsUnfinishedLog}
 use Rattle.rb_play_defs.proofs.Takes.{sound_taken, injected_more}
 use Rattle.rb_play_defs.proofs.Grows.{Begins, goes_taken}
 use Rattle.rb_play_defs.proofs.Covering.{AllCovered, IsCovered, acknowledged_within, taken_above}
-use Rattle.rb_site.specs.Nodes.{needed_by, OwnersCover}
+use Rattle.rb_nodes.specs.Nodes.{needed_by, OwnersCover}
 use Rattle.rb_site.specs.Site.{buffered_by, setup_of}
 use Rattle.rb_site.specs.Inject.{IsInjectorAt, HasTaken}
 use Rattle.rb_site.proofs.ShareLaws.{needed_share}

@@ -23,19 +23,19 @@ use Rattle.rb_base.specs.declared.outcome.Outcome.TheVariants as outcomes
 use Rattle.rb_message_defs.specs.Message.{parts_sent, sent_by}
 use Rattle.rb_message_defs.specs.Nodes.{owner_in}
 use Rattle.rb_store.specs.Tables.{rows_in, tables_in}
-use Rattle.rb_play_defs.specs.Step.{Progress, StepResult, unchanged, refused, rows_of, tx_changes, committed, commit_outcome, tx_step, fed_by, written_bodies, last_epoch, acknowledged_epoch, failed_in}
+use Rattle.rb_play_defs.specs.Step.{Progress, StepResult, unchanged, refused, rows_of, tx_changes, committed, commit_outcome, tx_step, fed_by, written_bodies, last_epoch, acknowledged_epoch}
 use Rattle.rb_play_defs.specs.Fitting.{FitsTables}
 use Rattle.rb_inject.specs.Injector as inject
 use Rattle.rb_inject.specs.declared.injector.Injector.{Injector}
 use Rattle.rb_play_defs.proofs.Sounds.{closed_all_below, sound_commit}
 use Rattle.rb_play_defs.proofs.Fits.{changes_fit}
 use Rattle.rb_evbuf.specs.Buffer.{StandsFor}
-use Rattle.rb_site.specs.Nodes.{Buffered, OwnersCover, with_changes, HoldsNodes, CanSend}
-use Rattle.rb_site.specs.Outbox.{HoldsSent, count_in, nodes_in}
+use Rattle.rb_nodes.specs.Nodes.{Buffered, OwnersCover, with_changes}
+use Rattle.rb_nodes.specs.Net.{Net, HoldsNet, count_in, committed_net, CanCommit}
 use Rattle.rb_base.specs.declared.epoch.Epoch.{Epoch}
 use Rattle.rb_site.specs.Outcome.{outcome_of_fault}
 use Rattle.rb_site.specs.Rows.{CanBeStored}
-use Rattle.rb_site.specs.Site.{IsSite, TxFits, buffered_by, closes_of, loss_of, setup_of}
+use Rattle.rb_site.specs.Site.{IsSite, TxFits, buffered_by, net_of, closes_of, setup_of}
 use Rattle.rb_site.specs.declared.site.Site.{Site}
 use Rattle.rb_commit.specs.Hand.{Hand}
 use Rattle.rb_evbuf.specs.declared.buffer.EventBuffer.{EventBuffer}
@@ -96,15 +96,20 @@ buffered_committed shape run operations changes is bodies =
       members = run.nodes;
     }) (sym bodies)
 
+net_committed : (shape : Shape) (run : Progress) (operations : List ClientOp) (changes : List Change) → changes ≡ tx_changes shape operations run → with_changes changes (buffered_by shape run) ≡ buffered_by shape (committed shape operations run) →
+    committed_net shape.buckets changes (net_of shape run) ≡ net_of shape (committed shape operations run)
+net_committed shape run operations changes is following =
+    let parts : List Change → List Sent = λ cs. map (sent_by (owner_in run.nodes)) (parts_sent shape.buckets run.opened (changes_in shape.site run.opened run.journal) cs) in
+    ap (λ (s : Buffered). record { buffered = s; sent = run.sent ++ parts changes; delivered = run.delivered; lost = run.lost }) following
+    ∙ ap (λ (cs : List Change). record { buffered = buffered_by shape (committed shape operations run); sent = run.sent ++ parts cs; delivered = run.delivered; lost = run.lost }) is
+
 -- a site that accepted a transaction, however its parts are made
 pub site_committed : (shape : Shape) (old new : Site) (seen : ℕ → List ℕ) (run : Progress) (operations : List ClientOp) (changes : List Change) → IsSite shape old seen run → TxFits shape old operations → refusal_of (rows_of shape run) operations ≡ None → changes ≡ tx_changes shape operations run →
     new.id ≡ old.id → new.mapped ≡ old.mapped → new.clock ≡ record { opened = old.clock.opened; previous = old.clock.previous; drawn = old.clock.drawn + 1 } →
     ((t k : ℕ) → rows_in new.tables t k ≡ row_left (of_key t k changes) (rows_in old.tables t k)) → tables_in new.tables ≡ tables_in old.tables →
-    ((b : ℕ) (s : Buffered) → HoldsNodes old.nodes b s → HoldsNodes new.nodes b (with_changes changes s)) →
-    ((b : ℕ) (s : Buffered) (ss : List Sent) (ds : List ℕ) (fa : ℕ → ℕ) → HoldsNodes old.nodes b s → HoldsSent old.outbox ss ds fa → HoldsSent new.outbox (ss ++ map (sent_by (owner_in s.members)) (parts_sent b s.opened (s.changes s.opened) changes)) ds fa) →
-    nodes_in new.outbox ≡ nodes_in old.outbox →
-    new.events ≡ old.events → new.injector ≡ old.injector → new.lost ≡ old.lost → new.made ≡ old.made + length changes → IsSite shape new seen (committed shape operations run)
-site_committed shape old new seen run operations changes held fits free is id mapped clock rows count nodes outbox senders events log lost made =
+    ((b : ℕ) (n : Net) → HoldsNet old.nodes b n → HoldsNet new.nodes b (committed_net b changes n)) →
+    new.events ≡ old.events → new.injector ≡ old.injector → new.made ≡ old.made + length changes → IsSite shape new seen (committed shape operations run)
+site_committed shape old new seen run operations changes held fits free is id mapped clock rows count nodes events log made =
     let made_changes = tx_changes shape operations run in
     let entry = Client run.opened (run.drawn + 1) made_changes in
     let bodies : written_bodies shape (committed shape operations run) ≡ written_bodies shape run =
@@ -119,12 +124,8 @@ site_committed shape old new seen run operations changes held fits free is id ma
       clock = clock ∙ ap (λ (hand : Hand). record { opened = hand.opened; previous = hand.previous; drawn = hand.drawn + 1 }) held.clock;
       rows = λ t k. rows t k ∙ ap (row_left (of_key t k changes)) (held.rows t k) ∙ ap (λ (cs : List Change). row_left (of_key t k cs) (row_at shape.site t k run.journal)) is;
       count = count ∙ held.count;
-      nodes = subst (HoldsNodes new.nodes shape.buckets) following (nodes shape.buckets (buffered_by shape run) held.nodes);
+      net = subst (HoldsNet new.nodes shape.buckets) (net_committed shape run operations changes is following) (nodes shape.buckets (net_of shape run) held.net);
       covered = λ none. subst (OwnersCover shape.buckets) following (held.covered none);
-      lost = ap loss_of lost ∙ held.lost;
-      outbox = subst (λ (cs : List Change). HoldsSent new.outbox (run.sent ++ map (sent_by (owner_in run.nodes)) (parts_sent shape.buckets run.opened (changes_in shape.site run.opened run.journal) cs)) run.delivered (failed_in run)) is
-          (outbox shape.buckets (buffered_by shape run) run.sent run.delivered (failed_in run) held.nodes held.outbox);
-      senders = senders ∙ held.senders;
       events = subst (λ (b : EventBuffer). StandsFor b (fed_by shape run)) (sym events) held.events;
       log = subst (λ (its : Injector). inject.StandsFor its (setup_of shape its) (written_bodies shape (committed shape operations run)) seen) (sym log)
           (subst (λ (bs : List EpochBody). inject.StandsFor old.injector (setup_of shape old.injector) bs seen) (sym bodies) held.log);
@@ -142,13 +143,13 @@ site_committed shape old new seen run operations changes held fits free is id ma
     counted cs same = omega (arith, sum_by-cons (λ (entry : Entry). length (changes_of shape.site entry)) (Client run.opened (run.drawn + 1) cs) run.journal)
 
 -- there is room to send the changes of a transaction
-pub can_send : (shape : Shape) (site : Site) (seen : ℕ → List ℕ) (run : Progress) (operations : List ClientOp) (changes : List Change) → IsSite shape site seen run → run.lost ≡ None → TxFits shape site operations → changes ≡ tx_changes shape operations run → CanSend site.nodes changes
+pub can_send : (shape : Shape) (site : Site) (seen : ℕ → List ℕ) (run : Progress) (operations : List ClientOp) (changes : List Change) → IsSite shape site seen run → run.lost ≡ None → TxFits shape site operations → changes ≡ tx_changes shape operations run → CanCommit site.nodes changes
 can_send shape site seen run operations changes held none fits is =
     let all : length changes ≡ length operations = ap length is ∙ as_many_changes (rows_of shape run) (server_of shape.site) (run.drawn + 1) operations in
     let few = epoch_length shape.site run.opened run.journal in
     let room = fits.room in
     let made = held.made in
-    (shape.buckets, buffered_by shape run, held.nodes, held.sound.some, held.covered none, omega arith)
+    (shape.buckets, net_of shape run, held.net, held.sound.some, held.covered none, omega arith)
 
 -- and to store them
 pub can_store : (shape : Shape) (site : Site) (seen : ℕ → List ℕ) (run : Progress) (operations : List ClientOp) (changes : List Change) → IsSite shape site seen run → TxFits shape site operations → refusal_of (rows_of shape run) operations ≡ None → changes ≡ tx_changes shape operations run → AllByRecursion (CanBeStored (tables_in site.tables)) changes
@@ -210,9 +211,9 @@ site_accepted shape site seen run operations outcome free held =
     (subst (λ (s : StepResult). IsSite shape site seen s.run) (sym step) held.0, held.1 ∙ sym (ap (λ (s : StepResult). s.outcome) step))
 
 -- the outcome of an accepted transaction
-pub outcome_is : (shape : Shape) (new : Site) (seen : ℕ → List ℕ) (run : Progress) (operations : List ClientOp) (transid sent : ℕ) (epoch : Epoch) → IsSite shape new seen (committed shape operations run) → transid ≡ new.clock.drawn → epoch.0 ≡ new.clock.opened → sent ≡ count_in new.outbox → outcomes.Committed transid epoch sent ≡ commit_outcome (committed shape operations run)
+pub outcome_is : (shape : Shape) (new : Site) (seen : ℕ → List ℕ) (run : Progress) (operations : List ClientOp) (transid sent : ℕ) (epoch : Epoch) → IsSite shape new seen (committed shape operations run) → transid ≡ new.clock.drawn → epoch.0 ≡ new.clock.opened → sent ≡ count_in new.nodes → outcomes.Committed transid epoch sent ≡ commit_outcome (committed shape operations run)
 outcome_is shape new seen run operations transid sent epoch held number opens count =
     let t : transid ≡ run.drawn + 1 = number ∙ ap (λ (h : Hand). h.drawn) held.clock in
     let e : epoch ≡ record { 0 = run.opened } = ap (λ (n : ℕ). record { 0 = n }) (opens ∙ ap (λ (h : Hand). h.opened) held.clock) in
-    let s : sent ≡ length (committed shape operations run).sent = count ∙ ap length held.outbox.sent_is in
+    let s : sent ≡ length (committed shape operations run).sent = count ∙ ap length held.net.outbox.sent_is in
     ap (λ (n : ℕ). outcomes.Committed n epoch sent) t ∙ ap (λ (x : Epoch). outcomes.Committed (run.drawn + 1) x sent) e ∙ ap (outcomes.Committed (run.drawn + 1) (record { 0 = run.opened })) s

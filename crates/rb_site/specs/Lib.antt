@@ -1,5 +1,3 @@
-pub mod Nodes
-pub mod Outbox
 pub mod Outcome
 pub mod Rows
 pub mod Site

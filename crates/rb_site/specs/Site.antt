@@ -1,7 +1,7 @@
 -- What a site's value represents.
 use Rattle.std.specs.Prelude.{◌≡◌, ℕ, ◌+◌, ◌*◌, ◌≤◌, ◌<◌, ◌-◌, ◌/◌, ◌^◌, Bool, true, false, List, length, map, sum_by, Option, Some, None}
-use Rattle.std.specs.List.{AllByRecursion, slice_get}
-use Rattle.std.specs.Option.{option_map, option_and_then}
+use Rattle.std.specs.List.{AllByRecursion}
+use Rattle.std.specs.Option.{option_map}
 use Rattle.rb_base.specs.declared.site.SiteId.TheVariants.{A}
 use Rattle.rb_base.specs.declared.schema.Schema.{Schema}
 use Rattle.rb_base.specs.declared.schema.Mapped.{Mapped}
@@ -14,7 +14,7 @@ use Rattle.rb_evbuf.specs.Buffer as buffer
 use Rattle.rb_inject.specs.Injector as injector
 use Rattle.rb_inject.specs.Injector.{LogSetup}
 use Rattle.rb_inject.specs.declared.injector.Injector.{Injector}
-use Rattle.rb_play_defs.specs.Step.{Progress, failed_in, fed_by, written_bodies, acknowledged_epoch}
+use Rattle.rb_play_defs.specs.Step.{Progress, fed_by, written_bodies, acknowledged_epoch}
 use Rattle.rb_play_defs.specs.Sound.{IsSound}
 use Rattle.rb_play_defs.specs.Fitting.{JournalFits, OperationFits}
 use Rattle.rb_play_defs.specs.declared.event.SiteEvent.{SiteEvent}
@@ -22,10 +22,9 @@ use Rattle.rb_play_defs.specs.declared.event.SiteEvent.TheVariants as events
 use Rattle.rb_message_defs.specs.Nodes.{owner_in, unacknowledged}
 use Rattle.rb_bucket.specs.Bucket.{messages_kept}
 use Rattle.rb_bucket.specs.declared.bucket.BucketBuffer.{BucketBuffer}
-use Rattle.rb_group.specs.Nodes.{buffer_of}
-use Rattle.rb_site.specs.Nodes.{Buffered, HoldsNodes, OwnersCover, with_acknowledged}
-use Rattle.rb_site.specs.Outbox.{HoldsSent, count_in, nodes_in}
-use Rattle.rb_site.specs.declared.site.Loss.{Loss}
+use Rattle.rb_nodes.specs.Nodes.{Buffered, OwnersCover, with_acknowledged}
+use Rattle.rb_nodes.specs.Net as nodes
+use Rattle.rb_nodes.specs.Net.{Net, HoldsNet, count_in, groups_in, replicas_in}
 use Rattle.rb_site.specs.declared.site.Site.{Site}
 
 -- a table of at most 16 columns, whose rows are short, with a name of at most 32 bytes
@@ -59,9 +58,13 @@ buffered_by shape run = record {
   members = run.nodes;
 }
 
--- the first lost group, with the epoch that was needed then
-abbrev pub loss_of : Option Loss → Option (ℕ × ℕ)
-loss_of lost = option_map (λ loss. (loss.group, loss.epoch.0)) lost
+-- what was done and sent at these nodes
+abbrev pub net_of : Shape → Progress → Net
+net_of shape run = record { buffered = buffered_by shape run; sent = run.sent; delivered = run.delivered; lost = run.lost }
+
+-- the same, if the nodes know this acknowledged epoch
+abbrev pub net_at : (acknowledged : ℕ) → Shape → Progress → Net
+net_at acknowledged shape run = record (net_of shape run) { buffered = with_acknowledged acknowledged (buffered_by shape run) }
 
 -- the declared tables, all of them small
 pub record AreDeclared (shape : Shape) : Type 0 where
@@ -96,11 +99,8 @@ pub record IsSiteAt (acknowledged : ℕ) (shape : Shape) (site : Site) (seen : �
   pub clock : site.clock ≡ record { opened = run.opened; previous = previous_closed run.opened run.journal; drawn = run.drawn }
   pub rows : (table key : ℕ) → rows_in site.tables table key ≡ row_at shape.site table key run.journal
   pub count : tables_in site.tables ≡ length shape.tables
-  pub nodes : HoldsNodes site.nodes shape.buckets (with_acknowledged acknowledged (buffered_by shape run))
+  pub net : HoldsNet site.nodes shape.buckets (net_at acknowledged shape run)
   pub covered : run.lost ≡ None → OwnersCover shape.buckets (buffered_by shape run)
-  pub lost : loss_of site.lost ≡ run.lost
-  pub outbox : HoldsSent site.outbox run.sent run.delivered (failed_in run)
-  pub senders : nodes_in site.outbox ≡ shape.buckets
   pub events : buffer.StandsFor site.events (fed_by shape run)
   pub log : injector.StandsFor site.injector (log_setup shape site) (written_bodies shape run) seen
   pub made : site.made ≡ changes_made shape run.journal
@@ -120,15 +120,15 @@ drawn_by site = site.clock.drawn
 
 -- the number of messages that its nodes have sent
 abbrev pub sent_by_site : Site → ℕ
-sent_by_site site = count_in site.outbox
+sent_by_site site = count_in site.nodes
 
 -- the number of its node groups
 abbrev pub groups_of : Site → ℕ
-groups_of site = length site.nodes.groups.items
+groups_of site = groups_in site.nodes
 
 -- the number of nodes in each group
 abbrev pub replicas_of : Site → ℕ
-replicas_of site = site.nodes.replicas
+replicas_of site = replicas_in site.nodes
 
 -- a site with the same numbers of groups and nodes, and with the same limit
 abbrev pub SameSetup : (old new : Site) → Type 0
@@ -187,7 +187,7 @@ CanTake site seen event = (shape : Shape) × (run : Progress) × IsSite shape si
 
 -- the buffer of a node that is up
 abbrev pub buffer_at : Site → (node : ℕ) → Option BucketBuffer
-buffer_at site node = option_and_then (λ group. buffer_of group node) (slice_get site.nodes.groups.items (node / site.nodes.replicas))
+buffer_at site node = nodes.buffer_at site.nodes node
 
 -- the owner of a bucket is up, and its buffer has all unacknowledged messages of the bucket
 abbrev pub OwnerHolds : Shape → Site → Progress → (bucket : ℕ) → Type 0

@@ -10,12 +10,12 @@ use Rattle.rb_store.specs.Tables.{rows_in, tables_in}
 use Rattle.rb_evbuf.specs.declared.buffer.EventBuffer.{EventBuffer}
 use Rattle.rb_inject.specs.Injector as injector
 use Rattle.rb_inject.specs.declared.injector.Injector.{Injector}
-use Rattle.rb_play_defs.specs.Step.{Progress, failed_in}
+use Rattle.rb_play_defs.specs.Step.{Progress}
 use Rattle.rb_play_defs.specs.Sound.{IsSound}
 use Rattle.rb_play_defs.specs.Fitting.{JournalFits}
-use Rattle.rb_site.specs.Nodes.{HoldsNodes, OwnersCover}
-use Rattle.rb_site.specs.Outbox.{HoldsSent, nodes_in}
-use Rattle.rb_site.specs.Site.{AreDeclared, buffered_by, changes_made, most_made, loss_of, groups_of, replicas_of, limit_of}
+use Rattle.rb_nodes.specs.Nodes.{OwnersCover}
+use Rattle.rb_nodes.specs.Net.{HoldsNet, groups_in, replicas_in}
+use Rattle.rb_site.specs.Site.{AreDeclared, buffered_by, net_of, changes_made, most_made, groups_of, replicas_of, limit_of}
 use Rattle.rb_site.specs.declared.site.Site.{Site}
 use Rattle.rb_site.specs.declared.stepped.Stepped.{Stepped}
 use Rattle.rb_site.specs.declared.stepped.Stepped.TheVariants as steps
@@ -31,11 +31,8 @@ pub record IsStoppedSite (shape : Shape) (site : StoppedSite) (run : Progress) :
   pub clock : site.clock ≡ record { opened = run.opened; previous = previous_closed run.opened run.journal; drawn = run.drawn }
   pub rows : (table key : ℕ) → rows_in site.tables table key ≡ row_at shape.site table key run.journal
   pub count : tables_in site.tables ≡ length shape.tables
-  pub nodes : HoldsNodes site.nodes shape.buckets (buffered_by shape run)
+  pub net : HoldsNet site.nodes shape.buckets (net_of shape run)
   pub covered : run.lost ≡ None → OwnersCover shape.buckets (buffered_by shape run)
-  pub lost : loss_of site.lost ≡ run.lost
-  pub outbox : HoldsSent site.outbox run.sent run.delivered (failed_in run)
-  pub senders : nodes_in site.outbox ≡ shape.buckets
   pub made : site.made ≡ changes_made shape run.journal
   pub few : site.made ≤ most_made
 
@@ -46,7 +43,7 @@ limit_in site = site.limit
 -- a site with the groups and nodes of this rest, and the limit of this injector
 abbrev pub HasSameSetup : StoppedSite → Injector → Site → Type 0
 HasSameSetup rest its site =
-    (groups_of site ≡ length rest.nodes.groups.items) × (replicas_of site ≡ rest.nodes.replicas) × (limit_of site ≡ injector.limit_of its)
+    (groups_of site ≡ groups_in rest.nodes) × (replicas_of site ≡ replicas_in rest.nodes) × (limit_of site ≡ injector.limit_of its)
 
 -- what is left of a site without its injector and event buffer
 abbrev pub rest_of : Site → StoppedSite
@@ -57,10 +54,8 @@ rest_of site = record {
   mapped = site.mapped;
   clock = site.clock;
   nodes = site.nodes;
-  outbox = site.outbox;
   limit = limit_of site;
   made = site.made;
-  lost = site.lost;
 }
 
 -- a site of this rest
@@ -72,11 +67,9 @@ site_of rest events its = record {
   mapped = rest.mapped;
   clock = rest.clock;
   nodes = rest.nodes;
-  outbox = rest.outbox;
   events = events;
   injector = its;
   made = rest.made;
-  lost = rest.lost;
 }
 
 -- what an event leaves that does not touch the device

@@ -1,4 +1,4 @@
-//! One site: its tables, its clock, its node groups, its event buffer, and the injector with its
+//! One site: its tables, its clock, its data nodes, its event buffer, and the injector with its
 //! log.
 //!
 //! A [`Site`] represents a point of a run (`IsSite`). [`Site::step`] plays one event: whatever
@@ -10,10 +10,7 @@
 
 pub mod law;
 mod mapping;
-mod nodes;
-mod outbox;
 mod rows;
-mod sending;
 mod site;
 mod stepped;
 mod taking;

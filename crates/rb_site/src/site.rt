@@ -10,7 +10,8 @@ ghost use Rattle.rb_disk.specs.Disk.{IsLowestFile};
 ghost use Rattle.rb_device_defs.specs.Image.{IsLogImage};
 ghost use Rattle.rb_journal_defs.specs.Journal.{row_at};
 ghost use Rattle.rb_journal_defs.specs.Transaction.{refusal_of};
-ghost use Rattle.rb_site.specs.Nodes.{GroupHolds};
+ghost use Rattle.rb_nodes.specs.Nodes.{GroupHolds};
+ghost use Rattle.rb_nodes.specs.Net.{lost_in};
 ghost use Rattle.rb_journal_defs.specs.Body.{Shape};
 ghost use Rattle.rb_play_defs.specs.UnfinishedLog.{HoldsUnfinishedLog};
 ghost use Rattle.rb_play_defs.specs.Step.{Progress, fed_by, beginning, rows_of, tx_changes, committed, commit_outcome, tx_step, close_step, deliver_step, deliver_all_step, injected, inject_step, injector_step, takeable, worth_logging, site_step, written_bodies, fail_step, restart_step, resend_step, answer_outcome as outcome_of_answer};
@@ -19,10 +20,7 @@ ghost use Rattle.rb_inject.specs.Injector.{IsLimit};
 ghost use Rattle.rb_inject.specs.Fault.{HasInjectCause, IsNotEmpty, IsTooLarge};
 
 use crate::mapping::copy_tables;
-use crate::nodes::Nodes;
-use crate::outbox::Outbox;
 use crate::rows::store;
-use crate::sending::{send_all, send_parts};
 use crate::stepped::{Stepped, StoppedSite, step_of};
 use crate::taking::{TakenEpochs, take_epochs};
 use crate::tally::Tally;
@@ -32,20 +30,13 @@ use rb_base::{
 use rb_commit::{Clock, TxFault, prepare};
 use rb_disk::{DiskLogFault, LogDisk, lowest_file};
 use rb_evbuf::{EventBuffer, Missing, Received};
-use rb_group::{FailOutcome, Group, GroupFault};
+use rb_group::{Group, GroupFault};
 use rb_index::EpochIndex;
 use rb_inject::{InjectFault, Injector};
+use rb_nodes::{NodeFailure, SiteNodes};
 use rb_play_defs::SiteEvent;
 use rb_store::Tables;
 use std::alloc::Global;
-
-/// A lost node group.
-#[derive(Clone, Copy, Debug)]
-pub(crate) struct Loss {
-    pub(crate) group: u32,
-    /// The epoch that was needed when it was lost.
-    pub(crate) epoch: Epoch,
-}
 
 /// One site of a run.
 #[derive(Drop)]
@@ -56,14 +47,11 @@ pub struct Site {
     // The tables as the log names them.
     mapped: MappedTables,
     clock: Clock,
-    nodes: Nodes,
-    outbox: Outbox,
+    nodes: SiteNodes,
     events: EventBuffer,
     injector: Injector,
     // How many changes its clients have made.
     made: u64,
-    // The first group that was lost.
-    lost: Option<Loss>,
 }
 
 impl Site {
@@ -160,7 +148,7 @@ impl Site {
         ensures { (shape : Shape) (seen : ℕ → List ℕ) (run : Progress) →
             IsSite shape self.now seen run → result ≡ length run.sent }
     {
-        self.outbox.len()
+        self.nodes.sent_len()
     }
 
     /// Returns its tables. Allocates nothing.
@@ -207,22 +195,19 @@ impl Site {
             IsSite shape self.now seen run →
             option_map (λ loss. (loss.0, loss.1.0)) result ≡ run.lost }
     {
-        match self.lost {
-            Some(Loss { group, epoch }) => Some((group, epoch)),
-            None => None,
-        }
+        self.nodes.lost()
     }
 
     // Returns the loss that refuses an event, if one does.
-    fn loss_against(&self, event: &SiteEvent) -> Option<Loss>
-        ensures { result ≡ (if needs_all_groups event.now then self.now.lost else None) }
+    fn loss_against(&self, event: &SiteEvent) -> Option<(u32, Epoch)>
+        ensures { result ≡ (if needs_all_groups event.now then lost_in self.now.nodes else None) }
     {
         match event {
             SiteEvent::Deliver(_)
             | SiteEvent::DeliverAll
             | SiteEvent::Inject
             | SiteEvent::Injector => None,
-            _ => self.lost,
+            _ => self.nodes.lost(),
         }
     }
 
@@ -237,11 +222,9 @@ impl Site {
             mapped: rest.mapped,
             clock: rest.clock,
             nodes: rest.nodes,
-            outbox: rest.outbox,
             events,
             injector,
             made: rest.made,
-            lost: rest.lost,
         }
     }
 
@@ -258,10 +241,8 @@ impl Site {
             mapped: self.mapped,
             clock: self.clock,
             nodes: self.nodes,
-            outbox: self.outbox,
             limit: self.injector.limit(),
             made: self.made,
-            lost: self.lost,
         };
         (rest, self.events, self.injector)
     }
@@ -276,7 +257,7 @@ impl Site {
             × (pair.1 ≡ (site_step shape run event.now).outcome)) }
         ensures nodes { IfOk result (λ pair. SameSetup self pair.0) }
     {
-        if let Some(Loss { group, epoch }) = self.loss_against(event) {
+        if let Some((group, epoch)) = self.loss_against(event) {
             return Ok((self, Outcome::SiteLost { group, epoch }));
         }
         match event {
@@ -345,9 +326,9 @@ impl Site {
         };
         let epoch = site.clock.open();
         site.made += changes.as_slice().len() as u64;
-        let nodes = send_parts(site.nodes, &mut site.outbox, changes.as_slice())?;
+        let nodes = site.nodes.commit(changes.as_slice())?;
         store(site.alloc, &mut site.tables, changes.as_slice(), epoch)?;
-        let sent = site.outbox.len();
+        let sent = nodes.sent_len();
         let site = Site { nodes, ..site };
         Ok((
             site,
@@ -374,9 +355,8 @@ impl Site {
         let Some(epoch) = site.clock.close(gci) else {
             unreachable!();
         };
-        let (nodes, messages) = site.nodes.close(prev, site.clock.open())?;
-        send_all(&mut site.outbox, messages)?;
-        let sent = site.outbox.len();
+        let nodes = site.nodes.close(prev, site.clock.open())?;
+        let sent = nodes.sent_len();
         let site = Site { nodes, ..site };
         Ok((site, Outcome::Closed { epoch, sent }))
     }
@@ -394,17 +374,11 @@ impl Site {
     {
         let mut site = self;
         let outcome = match site.nodes.fail(node) {
-            Ok(FailOutcome::Takeover(takeover, messages)) => {
-                site.outbox.node_failed(node);
-                send_all(&mut site.outbox, messages.into_vec())?;
-                let sent = site.outbox.len();
+            Ok(NodeFailure::Takeover(takeover)) => {
+                let sent = site.nodes.sent_len();
                 Outcome::Failed { takeover, sent }
             }
-            Ok(FailOutcome::Lost { group, epoch }) => {
-                site.outbox.node_failed(node);
-                site.lost = Some(Loss { group, epoch });
-                Outcome::Lost { group, epoch }
-            }
+            Ok(NodeFailure::Lost { group, epoch }) => Outcome::Lost { group, epoch },
             Err(GroupFault::NodeDown(node)) => Outcome::NodeDown(node),
             Err(GroupFault::NodeUp(_)) => unreachable!(),
             Err(GroupFault::NoMemory) => return Err(NoMemory),
@@ -444,9 +418,8 @@ impl Site {
         ensures nodes { IfOk result (λ pair. SameSetup self pair.0) }
     {
         let mut site = self;
-        let messages = site.nodes.resend()?;
-        send_all(&mut site.outbox, messages)?;
-        let sent = site.outbox.len();
+        site.nodes.resend()?;
+        let sent = site.nodes.sent_len();
         Ok((site, Outcome::Resent { sent }))
     }
 
@@ -461,7 +434,7 @@ impl Site {
         ensures nodes { IfOk result (λ pair. SameSetup self pair.0) }
     {
         let mut site = self;
-        let sent = site.outbox.len();
+        let sent = site.nodes.sent_len();
         if place >= sent {
             return Ok((site, Outcome::NoMessage { place, sent }));
         }
@@ -482,7 +455,7 @@ impl Site {
     {
         let mut site = self;
         let mut tally = Tally::new();
-        while let Some(place) = site.outbox.first_waiting() {
+        while let Some(place) = site.nodes.first_waiting() {
             let answer = site.receive(place)?;
             tally.add(answer);
         }
@@ -500,7 +473,7 @@ impl Site {
             × (outcome_of_answer answer ≡ (deliver_step shape place run).outcome)) }
         ensures nodes { SameSetup self.old self.new }
     {
-        let message = self.outbox.deliver(place)?;
+        let message = self.nodes.deliver(place)?;
         self.events.receive(message)
     }
 
@@ -611,7 +584,7 @@ impl Site {
         let events = EventBuffer::new(rest.alloc, rest.nodes.buckets(), written)?;
         let mut rest = rest;
         rest.send_again()?;
-        let sent = rest.outbox.len();
+        let sent = rest.nodes.sent_len();
         let site = Site::of(rest, events, injector);
         Ok((site, Outcome::Recovered { written, sent }))
     }

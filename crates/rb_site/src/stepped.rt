@@ -1,17 +1,15 @@
 ghost use Rattle.std.specs.Prelude.{◌≡◌, ◌++◌, ◌<◌, ◌*◌, ◌^◌, length, IfOk, OnOk};
 ghost use Rattle.rb_journal_defs.specs.Body.{Shape};
 ghost use Rattle.rb_play_defs.specs.Step.{Progress, beginning, sent_to_injector};
-ghost use Rattle.rb_site.specs.Nodes.{HasNodes};
+ghost use Rattle.rb_nodes.specs.Net.{HasGroups, SameSize};
 ghost use Rattle.rb_site.specs.Site.{AreDeclared, shape_of};
 ghost use Rattle.rb_site.specs.Stepped.{IsStoppedSite, stepped_of};
 
 use crate::mapping::map_tables;
-use crate::nodes::Nodes;
-use crate::outbox::Outbox;
-use crate::sending::send_all;
-use crate::site::{Loss, Site};
+use crate::site::Site;
 use rb_base::{MappedTables, NoMemory, Outcome, Schema, SiteId, SiteSetup};
 use rb_commit::Clock;
+use rb_nodes::SiteNodes;
 use rb_store::Tables;
 use std::alloc::Global;
 
@@ -36,12 +34,10 @@ pub struct StoppedSite {
     pub(crate) tables: Tables,
     pub(crate) mapped: MappedTables,
     pub(crate) clock: Clock,
-    pub(crate) nodes: Nodes,
-    pub(crate) outbox: Outbox,
+    pub(crate) nodes: SiteNodes,
     // The size at which binlog files are rotated, in bytes.
     pub(crate) limit: u64,
     pub(crate) made: u64,
-    pub(crate) lost: Option<Loss>,
 }
 
 impl StoppedSite {
@@ -58,14 +54,13 @@ impl StoppedSite {
         ensures begun { IfOk result (λ site.
             IsStoppedSite (shape_of schemas.now setup.groups setup.replicas) site
             (beginning setup.groups setup.replicas)) }
-        ensures nodes { IfOk result (λ site. HasNodes setup.groups setup.replicas site.nodes) }
+        ensures nodes { IfOk result (λ site. HasGroups setup.groups setup.replicas site.nodes) }
         ensures limit { IfOk result (λ site. site.limit ≡ setup.limit) }
     {
         let clock = Clock::new(alloc);
         let tables = Tables::new(alloc, schemas)?;
         let mapped = map_tables(alloc, schemas)?;
-        let nodes = Nodes::new(alloc, setup.groups, setup.replicas, clock.open())?;
-        let outbox = Outbox::new(alloc, setup.groups * setup.replicas)?;
+        let nodes = SiteNodes::new(alloc, setup.groups, setup.replicas, clock.open())?;
         Ok(StoppedSite {
             alloc,
             id: SiteId::A,
@@ -73,10 +68,8 @@ impl StoppedSite {
             mapped,
             clock,
             nodes,
-            outbox,
             limit: setup.limit,
             made: 0,
-            lost: None,
         })
     }
 
@@ -89,13 +82,13 @@ impl StoppedSite {
               sent = run.sent
                   ++ sent_to_injector shape run;
             })) }
-        ensures rest { OnOk result (self.new ≡ record self.old { outbox = self.new.outbox }) }
+        ensures rest { OnOk result (self.new ≡ record self.old { nodes = self.new.nodes }) }
+        ensures size { OnOk result (SameSize self.old.nodes self.new.nodes) }
     {
-        if self.lost.is_some() {
+        if self.nodes.lost().is_some() {
             return Ok(());
         }
-        let messages = self.nodes.resend()?;
-        send_all(&mut self.outbox, messages)?;
+        self.nodes.resend()?;
         Ok(())
     }
 }

@@ -1,22 +1,16 @@
-use Rattle.std.proofs.Common.{refl, sym, ap, ◌∙◌, subst, List, map, length, ◌++◌, ◌+◌}
+use Rattle.std.proofs.Common.{refl, sym, ap, ◌∙◌, subst, List, length, ◌+◌}
 use Rattle.rb_base.specs.declared.change.Change.{Change}
 use Rattle.rb_commit.specs.Hand.{Hand}
 use Rattle.rb_journal_defs.specs.Journal.{of_key, row_left}
-use Rattle.rb_message_defs.specs.Message.{parts_sent, sent_by}
-use Rattle.rb_message_defs.specs.Nodes.{owner_in}
 use Rattle.rb_store.specs.Tables.{rows_in}
-use Rattle.rb_site.specs.Nodes.{with_changes, HoldsNodes}
-use Rattle.rb_site.specs.Outbox.{HoldsSent}
-use Rattle.rb_site.proofs.PointLaws.{owners_in}
+use Rattle.rb_nodes.specs.Net.{HoldsNet, committed_net}
 use Rattle.rb_site.proofs.TxLaws.{can_send, can_store, site_committed, outcome_is}
 use Rattle.rb_site.proofs.site.Site.commit.Goals as goal
 
-pub send_parts-requires : goal.send_parts-requires
-send_parts-requires c =
-    let (seen, shape, run, operations, held, none, fits, free, is) = c.requires.accepted in record {
-      room = can_send shape c.args.self seen run operations c.as_slice-2.result.now held none fits (c.as_slice-2.ensures ∙ is);
-      owners = owners_in shape c.args.self seen run held;
-    }
+pub commit-requires : goal.commit-requires
+commit-requires c =
+    let (seen, shape, run, operations, held, none, fits, free, is) = c.requires.accepted in
+    record { room = can_send shape c.args.self seen run operations c.as_slice-2.result.now held none fits (c.as_slice-2.ensures ∙ is) }
 
 pub store-requires : goal.store-requires
 store-requires c =
@@ -28,8 +22,6 @@ returns-clause-committed c = λ shape seen run operations held fits free is.
     let after = site_committed shape c.args.self _ seen run operations c.args.changes held fits free is refl refl c.in-Some.ensures.drawn
     (λ t k. c.in_ok-store.ensures.rows t k ∙ ap (λ (cs : List Change). row_left (of_key t k cs) (rows_in c.args.self.tables t k)) c.as_slice-3.ensures)
     c.store.ensures.count
-    (λ b s holds. subst (λ (cs : List Change). HoldsNodes c.in_ok-nodes.nodes b (with_changes cs s)) c.as_slice-2.ensures (c.in_ok-nodes.ensures.holds b s holds))
-    (λ b s ss ds fa holds box. subst (λ (cs : List Change). HoldsSent c.send_parts.new.outbox (ss ++ map (sent_by (owner_in s.members)) (parts_sent b s.opened (s.changes s.opened) cs)) ds fa) c.as_slice-2.ensures (c.in_ok-nodes.ensures.sent b s ss ds fa holds box))
-    c.in_ok-nodes.ensures.senders
-    refl refl refl (ap (λ (cs : List Change). c.args.self.made + length cs) c.as_slice.ensures) in
-    (after, outcome_is shape _ seen run operations c.in-Some.transid c.len-sent.result c.open-epoch.result after (c.in-Some.ensures.some ∙ sym (ap (λ (h : Hand). h.drawn) c.in-Some.ensures.drawn)) c.open-epoch.ensures c.len-sent.ensures)
+    (λ b n holds. subst (λ (cs : List Change). HoldsNet c.in_ok-nodes.nodes b (committed_net b cs n)) c.as_slice-2.ensures (c.in_ok-nodes.ensures.holds b n holds))
+    refl refl (ap (λ (cs : List Change). c.args.self.made + length cs) c.as_slice.ensures) in
+    (after, outcome_is shape _ seen run operations c.in-Some.transid c.sent_len-sent.result c.open-epoch.result after (c.in-Some.ensures.some ∙ sym (ap (λ (h : Hand). h.drawn) c.in-Some.ensures.drawn)) c.open-epoch.ensures c.sent_len-sent.ensures)

@@ -9,4 +9,4 @@ receive-requires c =
 
 pub returns-clause-received : goal.returns-clause-received
 returns-clause-received c = if_ok_both c.receive.result _ _ _ c.receive.ensures.answer c.receive.ensures.kept (λ answer answers kept shape seen run held.
-    site_delivered shape c.args.self.now _ seen run c.args.place c.in_ok-message.message answer held c.in_ok-message.ensures.message (λ ss ds fa box. c.in_ok-message.ensures.delivered ss ds fa box) c.in_ok-message.ensures.nodes answers kept refl)
+    site_delivered shape c.args.self.now _ seen run c.args.place c.in_ok-message.message answer held c.in_ok-message.ensures.message (λ b n holds. c.in_ok-message.ensures.delivered b n holds) answers kept refl)

@@ -6,7 +6,7 @@ use Rattle.rb_site.proofs.site.Site.step_inside.Goals as goal
 
 pub returns-in-Some-clause-stepped : goal.returns-in-Some-clause-stepped
 returns-in-Some-clause-stepped c = λ shape seen run held fits.
-    site_lost shape c.args.self seen run c.args.event.now c.in-Some.field-0 held (sym c.in-Some.is ∙ c.loss_against.ensures)
+    site_lost shape c.args.self seen run c.args.event.now (c.in-Some.group, c.in-Some.epoch) held (sym c.in-Some.is ∙ c.loss_against.ensures)
 
 pub returns-in-Tx-clause-stepped : goal.returns-in-Tx-clause-stepped
 returns-in-Tx-clause-stepped c = if_ok_more c.transact.result _ _ c.transact.ensures.stepped (λ pair meets shape seen run held fits.
