@@ -3,8 +3,8 @@ use crate::epoch::Epoch;
 use crate::list::Items;
 use crate::schema::MappedTables;
 
-/// What the injector logs of one epoch: the changes and the tables that they name. At a site that
-/// reflects epochs, also the last epoch of its peer that it applied within this one.
+/// What the injector logs of one epoch: its number, the changes, the tables that they name, and at
+/// the secondary the reflected epoch, if there is one.
 #[derive(Debug, Drop)]
 pub struct EpochBody {
     /// The site's server id.
@@ -18,14 +18,14 @@ pub struct EpochBody {
 
 pub type Bodies = Items<EpochBody>;
 
-/// The changes of one bucket in one epoch.
+/// A bucket's part of one epoch: the changes of all its `Part` messages, by place.
 pub type Part = Changes;
 
-/// The parts of one epoch, in the order of the buckets from 0.
+/// The parts of one epoch, bucket 0 first.
 pub type Parts = Items<Part>;
 
-/// A row of `mysql.ndb_binlog_index`: the place of an epoch in the binlog, and how many rows it
-/// changes.
+/// A row of `mysql.ndb_binlog_index`: the place of an epoch in the binlog, and how many changes
+/// the epoch has.
 #[derive(Clone, Copy, Debug, PartialEq, Eq)]
 pub struct IndexRow {
     pub epoch: Epoch,

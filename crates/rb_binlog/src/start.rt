@@ -8,7 +8,7 @@ use rb_codec::{MAGIC, write_format};
 use rb_disk::{DiskLogFault, LogDisk};
 use std::alloc::Global;
 
-// Returns the bytes with which each of a site's files begins.
+// Returns the first bytes of each binlog file of a site.
 #[tactic(auto, unfolding(rb_log_defs::specs::File::file_start))]
 fn file_start_bytes(alloc: Global, site: SiteId) -> Result<Vec<u8>, NoMemory>
     ensures bytes { IfOk result (λ bytes. bytes.items ≡ file_start site) }
@@ -19,7 +19,8 @@ fn file_start_bytes(alloc: Global, site: SiteId) -> Result<Vec<u8>, NoMemory>
     Ok(bytes)
 }
 
-/// Writes the start of a site's file to an empty one, and syncs it. Returns its length, in bytes.
+/// Begins an empty binlog file, syncs it, and returns its length in bytes. A fault may leave bytes
+/// in the file.
 pub(crate) fn begin_file<D: LogDisk>(
     alloc: Global,
     site: SiteId,

@@ -17,17 +17,17 @@ use Rattle.rb_bucket.specs.Bucket.{IsBucketOf, changes_in, changes_kept, close_p
 abbrev pub closed_kept : BucketBuffer → (bucket : ℕ) → (close : ℕ × ℕ) → List Message
 closed_kept buffer bucket close = parts_kept buffer bucket close.0 ++ done_kept buffer bucket close ∷ []
 
--- the messages of the first closed epochs
+-- the messages of the first `count` closed epochs
 abbrev pub first_kept : BucketBuffer → (bucket count : ℕ) → List Message
 first_kept buffer bucket count = flat_map (closed_kept buffer bucket) (close_pairs (take count buffer.closes.items))
 
--- what is found in a bucket that exists
+-- a bucket's map holds `changes_kept`
 pub found : (buffer : BucketBuffer) (bucket epoch : ℕ) (epochs : BTreeMap ℕ (List Change)) (changes : List Change) → IsBucketOf buffer bucket →
     epochs ≡ get_or buffer.buckets.items (bucket - buffer.first) epochs → changes ≡ changes_in epochs epoch → changes ≡ changes_kept buffer epoch bucket
 found buffer bucket epoch epochs changes there is read =
     read ∙ sym (held_there buffer.first buffer.buckets.items epochs bucket epoch there.0 (omega (arith, there)) is)
 
--- one closed epoch more
+-- one more closed epoch
 pub one_closed : (buffer : BucketBuffer) (bucket index : ℕ) (close : Close) (changes : List Change) (before after : List Message) →
     index < length buffer.closes.items → close ≡ get_or buffer.closes.items index close → changes ≡ changes_kept buffer close.epoch.0 bucket →
     before ≡ first_kept buffer bucket index → after ≡ before ++ (parts_of bucket close.epoch changes ++ Done bucket close.epoch close.prev (length changes) ∷ []) →

@@ -27,12 +27,12 @@ metadata_of (Text most) = little_bytes 2 most
 abbrev pub all_metadata : List Column → List ℕ
 all_metadata columns = flat_map metadata_of columns
 
--- the length in bytes of a bitmap with one bit for each of these columns
+-- the length in bytes of a bitmap of `columns` bits, one for each column
 abbrev pub bitmap_size : ℕ → ℕ
 bitmap_size columns = (columns + 7) / 8
 
--- the payload of a table map event: table id, flags, the schema's name, the table's name, the types
--- of the columns, their metadata, and a bitmap of the columns that may be NULL, which is all zero
+-- the payload of a table map event: table id, flags, each name between its length and a zero byte,
+-- the number of columns, their types, the metadata after its length, and a bitmap: none may be NULL
 unfoldable pub table_map_payload : Mapped → List ℕ
 table_map_payload table =
     little_bytes 6 table.id ++ (zeros 2

@@ -11,16 +11,16 @@ use Rattle.rb_stream.specs.declared.fault.StreamFault.TheVariants as faults
 use Rattle.rb_stream.specs.declared.epoch.OpenEpoch.{OpenEpoch}
 use Rattle.rb_stream.specs.Epoch.{IsOpen, named_tables}
 
--- the result of taking the event at this position after these known events: the event's step, with
--- the event in the open epoch; or a fault, since its apply-status rows make it bad; or no memory,
--- in which case the open epoch is without the event
+-- the result of taking the event at this position after these known events: its step, if it has
+-- one, and the open epoch after it; or a fault, if the epoch's apply-status rows do not allow it,
+-- or `NoMemory`; both leave the open epoch unchanged
 abbrev pub Takes : (at : ℕ) → (known : List Known) → Known → Result (Option Step) StreamFault → Option OpenEpoch → Type 0
 Takes at known event (Ok given) current = (has_statuses known event.server event.says ≡ true) × IsOpen current (open_epoch (event ∷ known)) × (option_to_list given ≡ step_of known event)
 Takes at known event (Err (faults.BadEvent place field)) current = (has_statuses known event.server event.says ≡ false) × (place ≡ at) × (field ≡ Status) × IsOpen current (open_epoch known)
 Takes at known event (Err faults.NoMemory) current = IsOpen current (open_epoch known)
 
--- what the end of an epoch by this server adds to it: its number, from the own apply-status row,
--- and its tables; or the fault that no own row is of this server
+-- the number and the tables of an epoch that this server ends, the number as its own apply-status
+-- row gives it; or a fault, if there is no such row; or `NoMemory`
 abbrev pub Closes : OpenEpoch → (at server : ℕ) → Result (Epoch × List Mapped) StreamFault → Type 0
 Closes epoch at server (Ok closing) = (row : StatusRow) × (epoch.epoch_status.own ≡ Some row) × (row.server ≡ server) × (closing.0 ≡ row.epoch) × (closing.1 ≡ named_tables epoch)
 Closes epoch at server (Err (faults.BadEvent place field)) = (place ≡ at) × (field ≡ Status) × ((row : StatusRow) → epoch.epoch_status.own ≡ Some row → row.server ≡ server → ⊥)

@@ -28,12 +28,12 @@ letter_of B = codes "B"
 abbrev pub labelled : (label : List ℕ) → (number : ℕ) → List ℕ
 labelled label number = label ++ decimal number
 
--- the first message that an event buffer lacks: a place of a bucket, or the bucket's Done
+-- the first message that the next epoch lacks: a bucket's Part, by its place, or its Done
 abbrev pub missing_text : (bucket : ℕ) → (place : Option ℕ) → List ℕ
 missing_text bucket None = concat (labelled (codes " missing=") bucket ∷ codes ":done" ∷ [])
 missing_text bucket (Some place) = concat (labelled (codes " missing=") bucket ∷ labelled (codes ":") place ∷ [])
 
--- the outcome of a delivery of all messages
+-- the outcome of a `deliver` event with `all`
 abbrev pub delivered_text : (kept known old : ℕ) → List ℕ
 delivered_text kept known old =
     concat (labelled (codes "delivered kept=") kept ∷ labelled (codes " known=") known ∷ labelled (codes " old=") old ∷ [])
@@ -44,7 +44,7 @@ abbrev pub wrote_text : (count : ℕ) → (written : Epoch) → (bucket : ℕ) �
 wrote_text count written bucket place =
     concat (labelled (codes "wrote ") count ∷ labelled (codes " written=") written.0 ∷ missing_text bucket place ∷ [])
 
--- an event of a binlog file, as the event `dump` lists it
+-- an event of a binlog file, as a script's `dump` lists it
 abbrev pub listed_text : Listed → List ℕ
 listed_text event =
     concat (labelled (10 ∷ codes "event file=") event.file ∷ labelled (codes " pos=") event.position ∷ labelled (codes " type=") event.kind
@@ -103,7 +103,7 @@ log_line site files epochs written =
 abbrev pub hex_digit : ℕ → ℕ
 hex_digit digit = if nat_lt digit 10 then digit + 48 else digit + 87
 
--- a byte of a text: the byte itself if it is printable and neither a quote nor a backslash,
+-- a byte of a text: the byte itself if it is printable and not a double quote or a backslash,
 -- otherwise `\x` and its two hexadecimal digits
 abbrev pub text_byte : ℕ → List ℕ
 text_byte byte =

@@ -3,7 +3,7 @@ use Rattle.std.specs.Prelude.{take}
 use Rattle.rb_base.specs.declared.schema.Column.TheVariants.{Num}
 use Rattle.rb_site.proofs.mapping.map_table.Given as goal
 
--- the key and the columns so far are there
+-- the key, and then the columns so far
 abbrev pub invariant-loop-column : goal.invariant-loop-column
 invariant-loop-column l = record {
   columns : l.columns ≡ Num ∷ take l.column-index l.fn.schema.columns;
