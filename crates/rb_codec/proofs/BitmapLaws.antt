@@ -1,9 +1,8 @@
 -- A bitmap, byte by byte.
 use Rattle.std.proofs.Common.{◌≡◌, ◌≢◌, ◌⊎◌, inl, inr, ℕ, zero, suc, ◌+◌, ◌*◌, ◌-◌, ◌/◌, ◌%◌, ◌^◌, ◌<◌, ◌≤◌, Bool, true, false, ◌==◌, List, [], ◌∷◌, length, refl, sym, ap, subst, ◌∙◌, arith, eq-eqb, ne_eqb}
-use Rattle.std.specs.Prelude.{◌&&◌, if◌then◌else◌}
+use Rattle.std.specs.Prelude.{◌&&◌}
 use Rattle.std.proofs.lemmas.Bool.Decides.{eqb_tells}
 use Rattle.std.proofs.lemmas.Nat.{mod-pow-add, pow-add}
-use Rattle.std.proofs.Math.Nat.{mod-one}
 use Rattle.byteorder.specs.Endian.{little_from, little_number}
 use Rattle.rb_log_defs.specs.Table.{bitmap_size}
 use Rattle.rb_read_defs.specs.Events.{used_bits}

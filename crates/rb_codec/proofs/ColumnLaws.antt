@@ -10,6 +10,7 @@ use Rattle.byteorder.specs.Endian.{little_number}
 use Rattle.rb_base.specs.declared.schema.Column.{Column}
 use Rattle.rb_base.specs.declared.schema.Column.TheVariants.{Num, Long, Text}
 use Rattle.rb_base.specs.declared.schema.Mapped.{Mapped}
+use Rattle.rb_log_defs.specs.Table.{type_of, metadata_of}
 use Rattle.rb_read_defs.specs.Events.{metadata_size, columns_from, is_status, is_type, are_types}
 use Rattle.rb_codec.specs.Columns.{HasColumns, column_from, width_of}
 
@@ -27,6 +28,20 @@ size_cons kind types = by_test (kind == 15) (metadata_size (kind ∷ types)) (me
     by_test : (b : Bool) (all left : ℕ) → all ≡ 2 * (cond b 1 0 + count_by (λ kind. kind == 15) types) → left ≡ 2 * count_by (λ kind. kind == 15) types → all ≡ cond b 2 0 + left
     by_test true all left e l = omega (arith, e, l)
     by_test false all left e l = omega (arith, e, l)
+
+-- the metadata of a column has the length that its type code gives
+pub metadata_width_is : (column : Column) → width_of (type_of column) ≡ length (metadata_of column)
+metadata_width_is Num = refl
+metadata_width_is Long = refl
+metadata_width_is (Text most) = refl
+
+-- the length so far and that of the metadata of the types from here on are the whole length
+pub next_size : (types : List ℕ) (i kind size width : ℕ) → i < length types → kind ≡ get_or types i 0 → width ≡ width_of kind
+    → size + metadata_size (drop i types) ≡ metadata_size types → (size + width) + metadata_size (drop (suc i) types) ≡ metadata_size types
+next_size types i kind size width lt is same part =
+    let here : drop i types ≡ kind ∷ drop (suc i) types = drop-cons types i 0 lt ∙ ap (λ (k : ℕ). k ∷ drop (suc i) types) (sym is) in
+    let part = subst (λ (l : List ℕ). size + metadata_size l ≡ metadata_size types) here part in
+    omega (arith, part, same, size_cons kind (drop (suc i) types))
 
 -- the columns so far, and the types and the metadata of the other columns
 pub record IsPart (types metadata : List ℕ) (columns : List Column) (left rest : List ℕ) : Type 0 where

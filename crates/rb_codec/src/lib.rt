@@ -1,6 +1,6 @@
 //! The events of the binary log that every epoch and every file needs, read and written: the
 //! header, the format description, BEGIN and other queries, rotations, the end of a transaction,
-//! and table maps. Also the names of files.
+//! and table maps. Also the names of files, and the bytes of columns and values ([`column`]).
 //!
 //! Two contracts hold throughout. A writer appends exactly the bytes that the definitions of the
 //! log give for its event at that position; if memory allocation fails, it leaves the output
@@ -14,6 +14,7 @@
 #![tactic(auto)]
 
 mod bitmap;
+pub mod column;
 mod event;
 mod event_types;
 mod fields;

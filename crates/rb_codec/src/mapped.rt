@@ -3,23 +3,14 @@ ghost use Rattle.std.specs.List.{list_all};
 ghost use Rattle.rb_base.specs.declared.faults.CodecFault.TheVariants.{NoMemory as CodecOutOfMemory};
 ghost use Rattle.rb_read_defs.specs.Reading.{answer_of};
 ghost use Rattle.rb_read_defs.specs.Events.{table_map, is_status, is_type, are_types, metadata_size, columns_from};
-ghost use Rattle.rb_codec.specs.Columns.{HasColumns, column_from, width_of};
+ghost use Rattle.rb_codec.specs.Columns.{HasColumns};
 
 use crate::bitmap::all_clear;
+use crate::column::{LONG, LONGLONG, VARCHAR, column_from, is_type, metadata_width};
 use crate::fields::{Fields, check};
 use crate::read::bytes_of;
-use byteorder::{ByteOrder, LittleEndian};
-use rb_base::{CodecFault, Column, Columns, Field, Items, Mapped, NoMemory};
+use rb_base::{CodecFault, Columns, Field, Items, Mapped, NoMemory};
 use std::alloc::Global;
-
-/// The type code of a column of 4-byte numbers.
-pub(crate) const LONG: u8 = 3;
-
-/// The type code of a column of 8-byte numbers.
-pub(crate) const LONGLONG: u8 = 8;
-
-/// The type code of a text column.
-pub(crate) const VARCHAR: u8 = 15;
 
 /// Reads the payload of a TABLE_MAP event, which names the table of an id for the rows events after
 /// it. The flags, the bytes after the two names, and the bytes after the null bitmap may have any
@@ -86,13 +77,6 @@ pub fn is_status(schema: &[u8], name: &[u8]) -> bool
     schema == b"mysql".as_slice() && name == b"ndb_apply_status".as_slice()
 }
 
-/// Returns whether this is the type of a column that is accepted: LONG, LONGLONG or VARCHAR.
-fn is_type(kind: u8) -> bool
-    ensures { result ≡ is_type kind }
-{
-    matches!(kind, LONG | LONGLONG | VARCHAR)
-}
-
 /// Returns whether the table with these names can have columns of these types. The apply-status
 /// table has exactly its own types; any other table has a LONGLONG first, which is its key.
 fn are_types(schema: &[u8], name: &[u8], types: &[u8]) -> bool
@@ -116,7 +100,11 @@ fn are_all_types(types: &[u8]) -> bool
 fn metadata_size(types: &[u8]) -> u64
     ensures { result ≡ metadata_size types.now }
 {
-    2 * types.iter().filter(|kind| **kind == VARCHAR).count() as u64
+    let mut size = 0;
+    for kind in types {
+        size += metadata_width(*kind) as u64;
+    }
+    size
 }
 
 /// Returns the columns with these types and this metadata.
@@ -128,26 +116,7 @@ fn columns_from(alloc: Global, types: &[u8], metadata: &[u8]) -> Result<Columns,
     let mut rest = metadata;
     for kind in types {
         columns.push(column_from(*kind, rest))?;
-        rest = &rest[width_of(*kind)..];
+        rest = &rest[metadata_width(*kind)..];
     }
     Ok(columns)
-}
-
-/// Returns the column with this type. Its metadata is at the start of `metadata`.
-fn column_from(kind: u8, metadata: &[u8]) -> Column
-    requires { width_of kind ≤ length metadata.now }
-    ensures { result ≡ column_from kind metadata.now }
-{
-    match kind {
-        VARCHAR => Column::Text(LittleEndian::read_u16(metadata)),
-        LONG => Column::Long,
-        _ => Column::Num,
-    }
-}
-
-/// Returns the length in bytes of the metadata of a column with this type.
-fn width_of(kind: u8) -> usize
-    ensures { result ≡ width_of kind }
-{
-    if kind == VARCHAR { 2 } else { 0 }
 }

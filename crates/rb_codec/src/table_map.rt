@@ -1,13 +1,13 @@
 ghost use Rattle.std.specs.Prelude.{ℕ, ◌≡◌, ◌+◌, ◌^◌, ◌<◌, ◌≤◌, [], ◌∷◌, ◌++◌, length, map, IfOk, OnOk, OnErr};
 ghost use Rattle.rb_base.specs.Length.{length_bytes};
-ghost use Rattle.rb_log_defs.specs.Table.{type_of, metadata_of, all_metadata, bitmap_size, table_map_payload, table_map_event};
+ghost use Rattle.rb_log_defs.specs.Table.{type_of, all_metadata, bitmap_size, table_map_payload, table_map_event};
 ghost use Rattle.rb_log_defs.specs.Event.{zeros};
 ghost use Rattle.byteorder.specs.Endian.{little_bytes};
 ghost use Rattle.rb_log_defs.specs.Fits.{CanBeMapped};
 
+use crate::column::{type_code, write_metadata};
 use crate::event::write_event;
 use crate::event_types::TABLE_MAP_EVENT;
-use crate::mapped::{LONG, LONGLONG, VARCHAR};
 use byteorder::{ByteOrder, LittleEndian};
 use rb_base::{Column, Mapped, NoMemory, write_length};
 use std::alloc::Global;
@@ -75,17 +75,6 @@ fn write_name(out: &mut Vec<u8>, name: &[u8]) -> Result<(), NoMemory>
     Ok(())
 }
 
-/// Returns the type code of a column: LONGLONG, LONG or VARCHAR.
-fn type_code(column: Column) -> u8
-    ensures { result ≡ type_of column }
-{
-    match column {
-        Column::Num => LONGLONG,
-        Column::Long => LONG,
-        Column::Text(_) => VARCHAR,
-    }
-}
-
 fn types(alloc: Global, columns: &[Column]) -> Result<Vec<u8>, NoMemory>
     ensures { IfOk result (λ types. types.items ≡ map type_of columns.now) }
 {
@@ -97,7 +86,7 @@ fn types(alloc: Global, columns: &[Column]) -> Result<Vec<u8>, NoMemory>
     )
 }
 
-/// Returns the metadata of all columns: for each VARCHAR its maximum length in 2 bytes.
+/// Returns the metadata of all columns.
 fn metadata(alloc: Global, columns: &[Column]) -> Result<Vec<u8>, NoMemory>
     requires { length columns.now ≤ 64 }
     ensures { IfOk result (λ metadata. metadata.items ≡ all_metadata columns.now) }
@@ -107,15 +96,4 @@ fn metadata(alloc: Global, columns: &[Column]) -> Result<Vec<u8>, NoMemory>
         write_metadata(&mut metadata, *column)?;
     }
     Ok(metadata)
-}
-
-fn write_metadata(out: &mut Vec<u8>, column: Column) -> Result<(), NoMemory>
-    ensures { OnOk result (out.new.items ≡ out.old.items ++ metadata_of column) }
-{
-    if let Column::Text(most) = column {
-        let mut bytes = [0u8; 2];
-        LittleEndian::write_u16(&mut bytes, most);
-        out.extend_from_slice(&bytes)?;
-    }
-    Ok(())
 }

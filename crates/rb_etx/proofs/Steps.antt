@@ -1,5 +1,5 @@
 -- One more table or change is written: the events that remain of an epoch.
-use Rattle.std.proofs.Common.{◌≡◌, ◌<◌, ℕ, ◌+◌, ◌^◌, zero, suc, List, [], ◌∷◌, ◌++◌, length, get_or, drop, map, refl, sym, arith, add-one, drop-cons, subst}
+use Rattle.std.proofs.Common.{◌≡◌, ◌<◌, ℕ, ◌+◌, ◌^◌, suc, List, ◌∷◌, ◌++◌, length, get_or, drop, map, sym, arith, add-one, drop-cons, subst}
 use Rattle.rb_base.specs.declared.schema.Mapped.{Mapped}
 use Rattle.rb_base.specs.declared.change.Change.{Change}
 use Rattle.rb_log_defs.specs.Event.{Placed}

@@ -6,7 +6,7 @@ ghost use Rattle.rb_etx.specs.Size.{map_size, maps_size, change_size, changes_si
 
 use crate::table::table_of;
 use rb_base::{Change, Column, EpochBody, Mapped};
-use rb_codec::HEADER_SIZE;
+use rb_codec::{HEADER_SIZE, column};
 use rb_rows::{size_of_rows, size_of_status};
 use std::slice::from_ref;
 
@@ -67,7 +67,7 @@ fn map_size(table: &Mapped) -> u64
     MAP_SIZE + (names + columns.len() + bitmap) as u64 + metadata_size(columns)
 }
 
-/// Returns the length in bytes of the metadata of these columns: for each VARCHAR 2 bytes.
+/// Returns the length in bytes of the metadata of these columns.
 fn metadata_size(columns: &[Column]) -> u64
     requires { length columns.now ≤ 64 }
     ensures size { result ≡ length (all_metadata columns.now) }
@@ -75,9 +75,7 @@ fn metadata_size(columns: &[Column]) -> u64
 {
     let mut size = 0;
     for column in columns {
-        if let Column::Text(_) = column {
-            size += 2;
-        }
+        size += column::metadata_size(*column);
     }
     size
 }

@@ -1,6 +1,8 @@
 -- The row images of a rows event, and the values of a row image, column by column.
-use Rattle.std.proofs.Common.{◌≡◌, ◌<◌, ◌≤◌, ◌+◌, ◌-◌, ◌^◌, ◌*◌, ℕ, Bool, zero, suc, List, [], ◌∷◌, ◌++◌, length, get_or, take, drop, refl, ap, sym, subst, append-nil, length-append, add-one, arith}
-use Rattle.std.proofs.lemmas.List.{take-replicate}
+use Rattle.std.proofs.Common.{◌≡◌, ◌<◌, ◌≤◌, ◌+◌, ◌-◌, ◌^◌, ◌*◌, ℕ, Bool, zero, suc, List, [], ◌∷◌, ◌++◌, length, get_or, take, drop, refl, ap, sym, subst, ◌∙◌, append-nil, append_assoc, length-append, add-one, arith}
+use Rattle.std.specs.Io.{StartsWith}
+use Rattle.std.proofs.Math.Seq.{take-append_seam}
+use Rattle.std.proofs.lemmas.List.{take-replicate, take-take, take-append-drop}
 use Rattle.std.proofs.lemmas.Grind.{common_steps}
 use Rattle.byteorder.specs.Numbers.{length-bytes_low_first}
 use Rattle.rb_base.specs.Length.{length_bytes}
@@ -48,6 +50,19 @@ length_at columns values i column value inside is fits =
     = subst (λ (v : Value). values_bytes (drop i columns) (drop i values) ≡ value_bytes (get_or columns i column) v ++ values_bytes (drop (suc i) columns) (drop (suc i) values)) (sym is) (values_at columns values i column value inside fits) in
     rw (add-one, step) (length-append (value_bytes (get_or columns i column) value) (values_bytes (drop (suc i) columns) (drop (suc i) values)))
 
+-- bytes that start with the later of two outputs start with the earlier one
+pub still_starts : (old new later more : List ℕ) → later ≡ old ++ more → StartsWith new later → StartsWith new old
+still_starts old new later more is starts =
+    let whole : take (length (old ++ more)) new ≡ old ++ more = subst (λ (xs : List ℕ). StartsWith new xs) is starts in
+    let few : length old ≤ length (old ++ more) = omega (arith, length-append old more) in
+    sym (take-take (length old) (length (old ++ more)) new few) ∙ ap (take (length old)) whole ∙ take-append_seam old more
+
+-- an output with more bytes after it starts with the same bytes
+pub starts_more : (old later new more : List ℕ) → new ≡ later ++ more → StartsWith later old → StartsWith new old
+starts_more old later new more is starts =
+    let parts : later ≡ old ++ drop (length old) later = sym (take-append-drop (length old) later) ∙ ap (λ (xs : List ℕ). xs ++ drop (length old) later) starts in
+    ap (take (length old)) (is ∙ ap (λ (xs : List ℕ). xs ++ more) parts ∙ append_assoc old (drop (length old) later) more) ∙ take-append_seam old (drop (length old) later ++ more)
+
 -- the first bytes of 8 are a bitmap of at most 64 columns
 pub bitmap_cut : (columns n : ℕ) → columns ≤ 64 → take (bitmap_size columns) (little_bytes 8 n) ≡ little_bytes (bitmap_size columns) n
 bitmap_cut columns n few = take-bytes_low_first 0 8 (bitmap_size columns) n (omega arith)
@@ -71,6 +86,19 @@ one_change table (first ∷ []) change last one is =
     subst (λ (c : Change). rows_written table.id table.columns (first ∷ []) (end_flag last) ≡ rows_payload table.id (end_flag last) (transid_extra c.transid) (length table.columns) (present_bitmaps c.kind (length table.columns)) (images_of c.kind table.columns c.before c.after)) (sym is)
     (ap (rows_payload table.id (end_flag last) (transid_extra first.transid) (length table.columns) (present_bitmaps first.kind (length table.columns))) (append-nil (images_of first.kind table.columns first.before first.after)))
 one_change table (first ∷ second ∷ later) change last one is = absurd (omega arith)
+
+-- the payload of one change is appended part by part
+pub parts_appended : (table : Mapped) (changes : List Change) (change : Change) (last : Bool) (old one two three four head : List ℕ) → length changes ≡ 1 → change ≡ get_or changes 0 change →
+    head ≡ little_bytes 6 table.id ++ (little_bytes 2 (end_flag last) ++ (little_bytes 2 11 ++ transid_extra change.transid)) →
+    one ≡ old ++ head → two ≡ one ++ length_bytes (length table.columns) → three ≡ two ++ present_bitmaps change.kind (length table.columns) → four ≡ three ++ images_of change.kind table.columns change.before change.after →
+    four ≡ old ++ rows_written table.id table.columns changes (end_flag last)
+unfolding rows_payload
+parts_appended table changes change last old one two three four head single is made first second third fourth =
+    rw (one_change table changes change last single is, fourth, third, second, first, made)
+    (in_one_row old (little_bytes 6 table.id) (little_bytes 2 (end_flag last)) (little_bytes 2 11) (transid_extra change.transid) (length_bytes (length table.columns)) (present_bitmaps change.kind (length table.columns)) (images_of change.kind table.columns change.before change.after))
+  where
+    in_one_row : (old a b d e f g h : List ℕ) → (((old ++ (a ++ (b ++ (d ++ e)))) ++ f) ++ g) ++ h ≡ old ++ (a ++ (b ++ (d ++ (e ++ (f ++ (g ++ h))))))
+    in_one_row old a b d e f g h = simp append_assoc refl
 
 pub payload_length : (table flags : ℕ) (extra : List ℕ) (columns : ℕ) (present rows : List ℕ) → length (rows_payload table flags extra columns present rows) ≡ 10 + length extra + length (length_bytes columns) + length present + length rows
 unfolding rows_payload

@@ -16,8 +16,9 @@ use Rattle.rb_base.specs.declared.change.Kind.{Kind}
 use Rattle.rb_base.specs.declared.change.Kind.TheVariants.{Insert}
 use Rattle.rb_read_defs.specs.Reading.{Reading, Reader, Read, Short, Wrong, read_next, ◌>>=◌, give, that, answer_of}
 use Rattle.rb_read_defs.specs.Rows.{value_in, values_in, is_key, number_in, up_to_the_end, many, rows_head, changes, statuses}
+use Rattle.rb_codec.specs.Columns.{IsSmall, IsLong}
 use Rattle.rb_codec.specs.Fields.{Fails, Gives}
-use Rattle.rb_rows.specs.Rows.{change_in, status, IsSmall, IsLong, IsFirstLong}
+use Rattle.rb_rows.specs.Rows.{change_in, status, IsFirstLong}
 
 -- a reading of further items, after these items
 abbrev pub prepend : {X : Type 0} → List X → Reading (List X) → Reading (List X)

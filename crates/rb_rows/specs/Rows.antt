@@ -1,8 +1,8 @@
 -- A single change, and a single row of the apply-status table, of which the readings of whole
 -- events consist.
-use Rattle.std.specs.Prelude.{ℕ, ◌≡◌, ◌<◌, ◌^◌, List, get_or, None}
+use Rattle.std.specs.Prelude.{ℕ, List, get_or, None}
 use Rattle.rb_base.specs.declared.schema.Column.{Column}
-use Rattle.rb_base.specs.declared.schema.Column.TheVariants.{Num, Long}
+use Rattle.rb_base.specs.declared.schema.Column.TheVariants.{Num}
 use Rattle.rb_base.specs.declared.row.Value.{Value}
 use Rattle.rb_base.specs.declared.row.Value.TheVariants as values
 use Rattle.rb_base.specs.declared.change.Kind.{Kind}
@@ -10,6 +10,7 @@ use Rattle.rb_base.specs.declared.change.Change.{Change}
 use Rattle.rb_base.specs.declared.schema.Mapped.{Mapped}
 use Rattle.rb_read_defs.specs.Reading.{Reader, ◌>>=◌, give}
 use Rattle.rb_read_defs.specs.Rows.{image, images, key_of, number_in}
+use Rattle.rb_codec.specs.Columns.{IsLong}
 use Rattle.rb_read_defs.specs.declared.answers.StatusRow.{StatusRow}
 
 -- a change of a table, by this server in this transaction
@@ -23,15 +24,6 @@ unfoldable pub status : Mapped → Reader StatusRow
 status table = do
   row ← image table.columns None
   give (record { server = number_in row 0; epoch = record { 0 = number_in row 1 } })
-
--- a value that is a number of 4 bytes, if it is a number
-abbrev pub IsSmall : Value → Type 0
-IsSmall (values.Num n) = n < 2 ^ 32
-IsSmall (values.Text text) = Unit {0}
-
--- a value of a LONG column is a number of 4 bytes
-abbrev pub IsLong : Column → Value → Type 0
-IsLong column value = column ≡ Long → IsSmall value
 
 -- the first value of a row is a number of 4 bytes if the first column is LONG
 abbrev pub IsFirstLong : List Column → List Value → Type 0

@@ -1,5 +1,6 @@
 //! The payloads of rows events of the binary log, read and written: the changes of a table, and the
-//! rows of the apply-status table. No other crate knows the form of a row image.
+//! rows of the apply-status table. No other crate knows the form of a row image; the bytes of a
+//! single value are those of `rb_codec`'s module `column`.
 //!
 //! Two contracts hold throughout. A reader returns exactly the result that the definitions of
 //! reading give for its bytes, or `NoMemory`. The result is the value, or the first field that is

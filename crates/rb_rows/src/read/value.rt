@@ -1,14 +1,14 @@
 ghost use Rattle.std.specs.Prelude.{◌≡◌, ◌≢◌, ◌≤◌, Err, IfOk, OnOk};
-ghost use Rattle.rb_rows.specs.Rows.{IsFirstLong, IsLong};
+ghost use Rattle.rb_rows.specs.Rows.{IsFirstLong};
+ghost use Rattle.rb_codec.specs.Columns.{IsLong};
 ghost use Rattle.rb_base.specs.declared.faults.CodecFault.TheVariants.{NoMemory as CodecOutOfMemory};
 ghost use Rattle.rb_base.specs.declared.faults.Field.TheVariants.{Key};
-ghost use Rattle.rb_base.specs.declared.schema.Column.TheVariants.{Text as TextColumn};
-ghost use Rattle.rb_base.specs.declared.row.Value.TheVariants.{Text};
 ghost use Rattle.rb_read_defs.specs.Reading.{that};
 ghost use Rattle.rb_read_defs.specs.Rows.{value_in, values_in, is_key, number_in};
 ghost use Rattle.rb_codec.specs.Fields.{Gives};
 
-use rb_base::{Bytes, CodecFault, Column, Field, Items, NoMemory, Row, Value, Values};
+use rb_base::{CodecFault, Column, Field, Items, Row, Value, Values};
+use rb_codec::column::read_value;
 use rb_codec::{Fields, check};
 use std::alloc::Global;
 
@@ -65,47 +65,6 @@ fn is_key(key: Option<u64>, value: &Value) -> bool
         (Some(key), Value::Num(number)) => key == *number,
         (Some(_), Value::Text(_)) => false,
     }
-}
-
-/// Reads the next value, of this column.
-#[tactic(auto, unfolding(rb_read_defs::specs::Reading::number))]
-fn read_value(alloc: Global, fields: &mut Fields, column: Column) -> Result<Value, CodecFault>
-    ensures gives { result ≢ Err CodecOutOfMemory →
-        Gives (λ value. value) result fields.new.at
-        (value_in column fields.old.bytes.now fields.old.at) }
-    ensures bytes { fields.new.bytes ≡ fields.old.bytes }
-    ensures later { OnOk result (fields.old.at ≤ fields.new.at) }
-    ensures long { IfOk result (λ value. IsLong column value) }
-{
-    match column {
-        Column::Num => Ok(Value::Num(fields.number(8)?)),
-        Column::Long => Ok(Value::Num(fields.number(4)?)),
-        Column::Text(most) => Ok(Value::Text(read_text(alloc, fields, most)?)),
-    }
-}
-
-/// Reads the next text, of a column whose maximum length is `most`. The text comes after its
-/// length.
-#[tactic(auto, unfolding(rb_read_defs::specs::Reading::number, rb_read_defs::specs::Reading::some_bytes))]
-fn read_text(alloc: Global, fields: &mut Fields, most: u16) -> Result<Bytes, CodecFault>
-    ensures gives { result ≢ Err CodecOutOfMemory →
-        Gives (λ text. Text text) result fields.new.at
-        (value_in (TextColumn most) fields.old.bytes.now fields.old.at) }
-    ensures bytes { fields.new.bytes ≡ fields.old.bytes }
-    ensures later { OnOk result (fields.old.at ≤ fields.new.at) }
-{
-    let at = fields.at();
-    let size = fields.number(if most <= 255 { 1 } else { 2 })?;
-    check(size <= u64::from(most), at, Field::Length)?;
-    let text = fields.some_bytes(size as usize)?;
-    Ok(bytes_of(alloc, text)?)
-}
-
-/// Returns the list of these bytes.
-fn bytes_of(alloc: Global, bytes: &[u8]) -> Result<Bytes, NoMemory>
-    ensures { IfOk result (λ list. list ≡ bytes.now) }
-{
-    Ok(Items::from_vec(Vec::from_slice(alloc, bytes)?))
 }
 
 /// Returns the number that a row has in this column, or 0 if it has none there.

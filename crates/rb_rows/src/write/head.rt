@@ -1,4 +1,5 @@
-ghost use Rattle.std.specs.Prelude.{◌≡◌, ◌+◌, ◌^◌, ◌-◌, ◌≤◌, ◌++◌, OnOk};
+ghost use Rattle.std.specs.Prelude.{◌≡◌, ◌+◌, ◌^◌, ◌-◌, ◌≤◌, ◌++◌, OnOk, OnErr};
+ghost use Rattle.std.specs.Io.{StartsWith};
 ghost use Rattle.byteorder.specs.Endian.{little_bytes};
 ghost use Rattle.rb_log_defs.specs.Rows.{end_flag, transid_extra, present_bitmap, present_bitmaps};
 
@@ -23,10 +24,13 @@ pub(crate) fn rows_head(table: u16, last: bool, transid: u64) -> [u8; 19]
     bytes
 }
 
-/// Appends the present bitmaps: one for each row image of the kind.
+/// Appends the present bitmaps: one for each row image of the kind. If memory allocation fails,
+/// `out` still starts with the bytes that it had.
+#[tactic(auto, using(crate::proofs::Images::still_starts))]
 pub(crate) fn write_present(out: &mut Vec<u8>, kind: Kind, columns: usize) -> Result<(), NoMemory>
     requires { columns ≤ 64 }
-    ensures { OnOk result (out.new.items ≡ out.old.items ++ present_bitmaps kind columns) }
+    ensures ok { OnOk result (out.new.items ≡ out.old.items ++ present_bitmaps kind columns) }
+    ensures err { OnErr result (StartsWith out.new.items out.old.items) }
 {
     match kind {
         Kind::Insert | Kind::Remove => write_bitmap(out, columns)?,
@@ -38,11 +42,13 @@ pub(crate) fn write_present(out: &mut Vec<u8>, kind: Kind, columns: usize) -> Re
     Ok(())
 }
 
-/// Appends a present bitmap in which every column is present.
+/// Appends a present bitmap in which every column is present. If memory allocation fails, `out` is
+/// unchanged.
 #[tactic(auto, using(crate::proofs::Images::bitmap_cut))]
 fn write_bitmap(out: &mut Vec<u8>, columns: usize) -> Result<(), NoMemory>
     requires { columns ≤ 64 }
-    ensures { OnOk result (out.new.items ≡ out.old.items ++ present_bitmap columns) }
+    ensures ok { OnOk result (out.new.items ≡ out.old.items ++ present_bitmap columns) }
+    ensures err { OnErr result (out.new.items ≡ out.old.items) }
 {
     let mut bytes = [0u8; 8];
     LittleEndian::write_u64(&mut bytes, all_present(columns));

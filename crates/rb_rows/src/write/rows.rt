@@ -1,4 +1,5 @@
-ghost use Rattle.std.specs.Prelude.{◌≡◌, ◌≤◌, [], ◌∷◌, ◌++◌, length, All, IfOk, OnOk, OnErr};
+ghost use Rattle.std.specs.Prelude.{◌≡◌, ◌≤◌, [], ◌∷◌, ◌++◌, length, All, OnOk, OnErr};
+ghost use Rattle.std.specs.Io.{StartsWith};
 ghost use Rattle.rb_log_defs.specs.Rows.{end_flag, rows_written};
 ghost use Rattle.rb_log_defs.specs.Fits.{Fits};
 
@@ -25,32 +26,36 @@ pub fn write_rows(
         ++ rows_written table.now.id table.now.columns changes.now (end_flag last)) }
     ensures err { OnErr result (out.new.items ≡ out.old.items) }
 {
-    let payload = rows_payload(alloc, table, changes, last)?;
-    out.extend_from_slice(&payload)?;
+    let old_len = out.len();
+    out.reserve(size_of_rows(table, changes) as usize)?;
+    if let Err(error) = append_rows(alloc, out, table, changes, last) {
+        out.truncate(old_len);
+        return Err(error);
+    }
     Ok(())
 }
 
-/// Returns that payload. It is built separately, so that `out` gets all of it or nothing.
-#[tactic(auto, unfolding(rb_log_defs::specs::Rows::rows_payload), using(crate::proofs::Images::one_change))]
-fn rows_payload(
+/// Appends that payload. If memory allocation fails, `out` still starts with the bytes that it had.
+#[tactic(auto, using(crate::proofs::Images::still_starts))]
+fn append_rows(
     alloc: Global,
+    out: &mut Vec<u8>,
     table: &Mapped,
     changes: &[Change],
     last: bool,
-) -> Result<Vec<u8>, NoMemory>
+) -> Result<(), NoMemory>
     requires one { length changes.now ≡ 1 }
     requires few { length table.now.columns ≤ 64 }
     requires fits { All (λ change. Fits table.now.columns change) changes.now }
-    ensures { IfOk result (λ payload. payload.items
-        ≡ rows_written table.now.id table.now.columns changes.now (end_flag last)) }
+    ensures ok { OnOk result (out.new.items ≡ out.old.items
+        ++ rows_written table.now.id table.now.columns changes.now (end_flag last)) }
+    ensures err { OnErr result (StartsWith out.new.items out.old.items) }
 {
     let change = &changes[0];
     let columns = table.columns.as_slice();
-    let size = size_of_rows(table, changes);
-    let mut payload = Vec::with_capacity(alloc, size as usize)?;
-    payload.extend_from_slice(&rows_head(table.id, last, change.transid))?;
-    write_length(alloc, &mut payload, columns.len() as u64)?;
-    write_present(&mut payload, change.kind, columns.len())?;
-    write_images(&mut payload, columns, change)?;
-    Ok(payload)
+    out.extend_from_slice(&rows_head(table.id, last, change.transid))?;
+    write_length(alloc, out, columns.len() as u64)?;
+    write_present(out, change.kind, columns.len())?;
+    write_images(out, columns, change)?;
+    Ok(())
 }

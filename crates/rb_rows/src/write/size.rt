@@ -1,8 +1,9 @@
 ghost use Rattle.std.specs.Prelude.{◌≡◌, ◌≤◌, Bool, length, All};
-ghost use Rattle.rb_log_defs.specs.Rows.{present_bitmaps, value_bytes, values_bytes, image_of, images_of, end_flag, rows_written, status_written};
-ghost use Rattle.rb_log_defs.specs.Fits.{Fits, FitsColumn, FitsColumns, IsImage};
+ghost use Rattle.rb_log_defs.specs.Rows.{present_bitmaps, values_bytes, image_of, images_of, end_flag, rows_written, status_written};
+ghost use Rattle.rb_log_defs.specs.Fits.{Fits, FitsColumns, IsImage};
 
 use rb_base::{Change, Column, EpochBody, Kind, Mapped, Row, Value};
+use rb_codec::column::value_size;
 
 /// The length in bytes of a payload before its bitmaps: the table's id, the flags, the length of
 /// the extra data, the extra data, and the number of columns.
@@ -100,22 +101,4 @@ fn values_size(columns: &[Column], values: &[Value]) -> u64
         size += value_size(columns[index], &values[index]);
     }
     size
-}
-
-/// Returns the length in bytes of a value of a column.
-#[tactic(auto, unfolding(rb_log_defs::specs::Rows::text_bytes))]
-fn value_size(column: Column, value: &Value) -> u64
-    requires { FitsColumn column value.now }
-    ensures size { result ≡ length (value_bytes column value.now) }
-    ensures most { result ≤ 65537 }
-{
-    match (column, value) {
-        (Column::Num, Value::Num(_)) => 8,
-        (Column::Long, Value::Num(_)) => 4,
-        (Column::Text(most), Value::Text(text)) => {
-            let width = if most <= 255 { 1 } else { 2 };
-            width + text.as_slice().len() as u64
-        }
-        _ => 0,
-    }
 }

@@ -3,7 +3,7 @@ use Rattle.rb_base.specs.declared.schema.Column.TheVariants.{Num}
 use Rattle.rb_base.specs.declared.row.Value.{Value}
 use Rattle.rb_log_defs.specs.Rows.{value_bytes, values_bytes}
 use Rattle.rb_log_defs.specs.Fits.{FitsColumn}
-use Rattle.rb_rows.proofs.Images.{fits_same_length, fits_at, values_at}
+use Rattle.rb_rows.proofs.Images.{fits_same_length, fits_at, values_at, starts_more}
 use Rattle.rb_rows.proofs.write.image.write_values.Goals as goal
 
 pub offset_bounds-values-index : goal.offset_bounds-values-index
@@ -31,4 +31,8 @@ loop-index-preserved c =
     ++ values_bytes (drop (suc c.loop-index.index) c.args.columns.now) (drop (suc c.loop-index.index) c.args.values.now))
     (sym c.index-values-index.is)
     (values_at c.args.columns.now c.args.values.now c.loop-index.index Num c.index-values-index.result inside c.requires) in
-    rw (add-one, c.in_ok-write_value.ensures, append_assoc, ← next) c.loop-index.invariant
+    record {
+      whole = rw (add-one, c.in_ok-write_value.ensures.ok, append_assoc, ← next) c.loop-index.invariant.whole;
+      starts = starts_more c.args.out.now.items c.loop-index.out.items c.write_value.new.out.items (value_bytes (get_or c.args.columns.now c.loop-index.index Num) c.index-values-index.result)
+          c.in_ok-write_value.ensures.ok c.loop-index.invariant.starts;
+    }
