@@ -1,6 +1,8 @@
 -- The messages of a bucket, one closed epoch after the other.
 use Rattle.std.proofs.Common.{◌≡◌, ℕ, ◌+◌, ◌-◌, ◌<◌, ◌≤◌, List, [], ◌∷◌, ◌++◌, length, get_or, take, refl, ap, sym, ◌∙◌, arith}
 use Rattle.std.specs.List.{flat_map}
+use Rattle.std.specs.Prelude.{Option, Some, None}
+use Rattle.std.specs.Option.{option_map, option_map_or}
 use Rattle.std.specs.BTreeMap.{BTreeMap}
 use Rattle.std.proofs.lemmas.List.{take_more, take_all, map-append, append-nil}
 use Rattle.std.proofs.lemmas.Grind.{flat_map-append}
@@ -11,7 +13,7 @@ use Rattle.rb_base.specs.declared.message.Message.TheVariants.{Done}
 use Rattle.rb_bucket.specs.declared.bucket.Close.{Close}
 use Rattle.rb_bucket.specs.declared.bucket.BucketBuffer.{BucketBuffer}
 use Rattle.rb_bucket.proofs.Keeping.{held_there}
-use Rattle.rb_bucket.specs.Bucket.{IsBucketOf, changes_in, changes_kept, close_pairs, parts_of, parts_kept, done_kept, messages_kept}
+use Rattle.rb_bucket.specs.Bucket.{IsBucketOf, changes_in, changes_kept, close_pairs, closes_kept, parts_of, parts_kept, done_kept, messages_kept}
 
 -- the messages of a closed epoch
 abbrev pub closed_kept : BucketBuffer → (bucket : ℕ) → (close : ℕ × ℕ) → List Message
@@ -45,11 +47,27 @@ one_closed buffer bucket index close changes before after within is kept so_far 
       append-nil (closed_kept buffer bucket (close.epoch.0, close.prev.0)),
     ) refl
 
--- all closed epochs, and the open one
-pub all_closed : (buffer : BucketBuffer) (bucket index : ℕ) (opened : Epoch) (changes : List Change) (before after : List Message) →
-    length buffer.closes.items ≤ index → changes ≡ changes_kept buffer opened.0 bucket → before ≡ first_kept buffer bucket index →
-    after ≡ before ++ parts_of bucket opened changes → after ≡ messages_kept buffer bucket opened.0
+-- all closed epochs
+pub all_closed : (buffer : BucketBuffer) (bucket index : ℕ) → length buffer.closes.items ≤ index → first_kept buffer bucket index ≡ flat_map (closed_kept buffer bucket) (closes_kept buffer)
+all_closed buffer bucket index end = ap (λ (closes : List Close). flat_map (closed_kept buffer bucket) (close_pairs closes)) (take_all index buffer.closes.items end)
+
+-- all closed epochs, and an open one without changes
+pub none_open : (buffer : BucketBuffer) (bucket index : ℕ) (messages : List Message) → length buffer.closes.items ≤ index → ((epoch : Epoch) → buffer.open_epoch ≡ Some epoch → ⊥) → messages ≡ first_kept buffer bucket index →
+    messages ≡ messages_kept buffer bucket
 unfolding messages_kept
-all_closed buffer bucket index opened changes before after end kept so_far one =
-    one ∙ ap (λ (cs : List Change). before ++ parts_of bucket opened cs) kept ∙ ap (λ (ms : List Message). ms ++ parts_kept buffer bucket opened.0) (so_far
-    ∙ ap (λ (closes : List Close). flat_map (closed_kept buffer bucket) (close_pairs closes)) (take_all index buffer.closes.items end))
+none_open buffer bucket index messages end none so_far =
+    so_far ∙ all_closed buffer bucket index end ∙ sym (append-nil (flat_map (closed_kept buffer bucket) (closes_kept buffer)))
+    ∙ ap (λ (o : Option Epoch). flat_map (closed_kept buffer bucket) (closes_kept buffer) ++ option_map_or (parts_kept buffer bucket) (option_map (λ (e : Epoch). e.0) o) []) (sym (absent buffer.open_epoch none))
+  where
+    absent : (o : Option Epoch) → ((epoch : Epoch) → o ≡ Some epoch → ⊥) → o ≡ None
+    absent None none = refl
+    absent (Some epoch) none = absurd (none epoch refl)
+
+-- all closed epochs, and the open one
+pub one_open : (buffer : BucketBuffer) (bucket index : ℕ) (opened : Epoch) (changes : List Change) (before after : List Message) →
+    length buffer.closes.items ≤ index → buffer.open_epoch ≡ Some opened → changes ≡ changes_kept buffer opened.0 bucket → before ≡ first_kept buffer bucket index →
+    after ≡ before ++ parts_of bucket opened changes → after ≡ messages_kept buffer bucket
+unfolding messages_kept
+one_open buffer bucket index opened changes before after end is kept so_far one =
+    one ∙ ap (λ (cs : List Change). before ++ parts_of bucket opened cs) kept ∙ ap (λ (ms : List Message). ms ++ parts_kept buffer bucket opened.0) (so_far ∙ all_closed buffer bucket index end)
+    ∙ ap (λ (o : Option Epoch). flat_map (closed_kept buffer bucket) (closes_kept buffer) ++ option_map_or (parts_kept buffer bucket) (option_map (λ (e : Epoch). e.0) o) []) (sym is)

@@ -1,7 +1,7 @@
 -- What a data node has buffered of its group's buckets.
-use Rattle.std.specs.Prelude.{ℕ, ◌+◌, ◌-◌, ◌<◌, ◌≤◌, ◌==◌, ◌&&◌, nat_le, if◌then◌else◌, length, List, [], ◌∷◌, ◌++◌, map}
+use Rattle.std.specs.Prelude.{ℕ, ◌+◌, ◌-◌, ◌<◌, ◌≤◌, ◌==◌, ◌&&◌, nat_le, if◌then◌else◌, length, List, [], ◌∷◌, ◌++◌, map, Option}
 use Rattle.std.specs.List.{AllByRecursion, slice_get, flat_map, enumerate_from}
-use Rattle.std.specs.Option.{option_and_then, unwrap_or}
+use Rattle.std.specs.Option.{option_and_then, option_map, option_map_or, unwrap_or}
 use Rattle.std.specs.Ordering.{nat_cmp}
 use Rattle.std.specs.BTreeMap.{BTreeMap}
 use Rattle.std.specs.BTreeMap as tree
@@ -33,6 +33,10 @@ close_pairs closes = map (λ (close : Close). (close.epoch.0, close.prev.0)) clo
 -- the closed epochs, each with the one closed before it, the oldest first
 abbrev pub closes_kept : BucketBuffer → List (ℕ × ℕ)
 closes_kept buffer = close_pairs buffer.closes.items
+
+-- the open epoch, if it has a change
+abbrev pub open_of : BucketBuffer → Option ℕ
+open_of buffer = option_map (λ epoch. epoch.0) buffer.open_epoch
 
 -- the first epoch that it buffers
 abbrev pub since_of : BucketBuffer → ℕ
@@ -67,8 +71,12 @@ parts_kept buffer bucket epoch = parts_of bucket (record { 0 = epoch }) (changes
 abbrev pub done_kept : BucketBuffer → (bucket : ℕ) → (close : ℕ × ℕ) → Message
 done_kept buffer bucket close = Done bucket (record { 0 = close.0 }) (record { 0 = close.1 }) (length (changes_kept buffer close.0 bucket))
 
+-- the Parts of a bucket in the open epoch that a buffer holds, by place
+abbrev pub open_parts_kept : BucketBuffer → (bucket : ℕ) → List Message
+open_parts_kept buffer bucket = option_map_or (parts_kept buffer bucket) (open_of buffer) []
+
 -- the messages of a bucket that a buffer holds: for each closed epoch, the oldest first, its Parts
 -- and its Done; then the Parts of the open epoch
-unfoldable pub messages_kept : BucketBuffer → (bucket opened : ℕ) → List Message
-messages_kept buffer bucket opened =
-    flat_map (λ close. parts_kept buffer bucket close.0 ++ done_kept buffer bucket close ∷ []) (closes_kept buffer) ++ parts_kept buffer bucket opened
+unfoldable pub messages_kept : BucketBuffer → (bucket : ℕ) → List Message
+messages_kept buffer bucket =
+    flat_map (λ close. parts_kept buffer bucket close.0 ++ done_kept buffer bucket close ∷ []) (closes_kept buffer) ++ open_parts_kept buffer bucket

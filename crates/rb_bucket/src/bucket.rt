@@ -1,4 +1,4 @@
-ghost use Rattle.std.specs.Prelude.{◌≡◌, ◌+◌, ◌-◌, ◌^◌, ◌<◌, ◌≤◌, ◌==◌, nat_le, nat_lt, ℕ, map, filter, if◌then◌else◌, length, [], ◌∷◌, ◌++◌, IfOk, OnOk, OnErr, IsSome};
+ghost use Rattle.std.specs.Prelude.{◌≡◌, ◌+◌, ◌-◌, ◌^◌, ◌<◌, ◌≤◌, ◌==◌, nat_le, nat_lt, ℕ, map, filter, if◌then◌else◌, length, [], ◌∷◌, ◌++◌, IfOk, OnOk, OnErr, IsSome, Some, None};
 ghost use Rattle.std.specs.Ordering.{nat_cmp};
 ghost use Rattle.std.specs.BTreeMap as tree;
 ghost use Rattle.rb_bucket.specs.Bucket.{changes_in};
@@ -26,11 +26,13 @@ pub struct BucketBuffer {
     buckets: Vec<BTreeMap<u64, Changes>>,
     // The closed epochs, the oldest first.
     closes: VecDeque<Close>,
+    // The open epoch, once it has a change.
+    open_epoch: Option<Epoch>,
     since: Epoch,
 }
 
 impl BucketBuffer {
-    ghost use Rattle.rb_bucket.specs.Bucket.{changes_kept, closes_kept, since_of, IsBucketOf, with_change, Rising, messages_kept};
+    ghost use Rattle.rb_bucket.specs.Bucket.{changes_kept, closes_kept, since_of, IsBucketOf, open_of, with_change, Rising, messages_kept};
 
     /// Returns an empty buffer of the buckets `first` to `first + buckets - 1` that buffers from
     /// the epoch `since` on.
@@ -44,6 +46,7 @@ impl BucketBuffer {
         ensures empty { IfOk result (λ buffer. (epoch bucket : ℕ) →
             changes_kept buffer epoch bucket ≡ []) }
         ensures closes { IfOk result (λ buffer. closes_kept buffer ≡ []) }
+        ensures opened { IfOk result (λ buffer. open_of buffer ≡ None) }
         ensures since { IfOk result (λ buffer. since_of buffer ≡ since.0) }
         ensures buckets { IfOk result (λ buffer. (bucket : ℕ) → first ≤ bucket →
             bucket < first + buckets → IsBucketOf buffer bucket) }
@@ -57,12 +60,13 @@ impl BucketBuffer {
             first,
             buckets: kept,
             closes: VecDeque::new(alloc),
+            open_epoch: None,
             since,
         })
     }
 
-    /// Buffers a change of a bucket in an epoch. Returns its place, which counts the bucket's
-    /// changes in the epoch from 0. If memory allocation fails, nothing is buffered.
+    /// Buffers a change of a bucket in the open epoch, `epoch`. Returns its place, which counts the
+    /// bucket's changes in the epoch from 0. If memory allocation fails, nothing is buffered.
     pub fn add(&mut self, bucket: u32, epoch: Epoch, change: Change) -> Result<u32, NoMemory>
         requires bucket { IsBucketOf self.old bucket }
         requires room { length (changes_kept self.old epoch.0 bucket) < 2 ^ 32 - 1 }
@@ -71,8 +75,10 @@ impl BucketBuffer {
         ensures kept { OnOk result ((e b : ℕ) →
             changes_kept self.new e b
             ≡ with_change epoch.0 bucket change (changes_kept self.old) e b) }
-        ensures memory { OnErr result ((e b : ℕ) →
-            changes_kept self.new e b ≡ changes_kept self.old e b) }
+        ensures opened { OnOk result (open_of self.new ≡ Some epoch.0) }
+        ensures memory { OnErr result (((e b : ℕ) →
+            changes_kept self.new e b ≡ changes_kept self.old e b)
+            × (open_of self.new ≡ open_of self.old)) }
         ensures closes { closes_kept self.new ≡ closes_kept self.old }
         ensures since { since_of self.new ≡ since_of self.old }
         ensures buckets { (b : ℕ) → IsBucketOf self.old b → IsBucketOf self.new b }
@@ -81,20 +87,24 @@ impl BucketBuffer {
         let kept = &mut self.buckets[(bucket - self.first) as usize];
         enter(alloc, kept, epoch.0)?;
         let place = append(kept, epoch.0, change)?;
+        self.open_epoch = Some(epoch);
         Ok(place)
     }
 
-    /// Records the close of an epoch, with the epoch closed before it, or 0. If memory allocation
-    /// fails, nothing is recorded.
+    /// Records the close of the open epoch, `epoch`, with the epoch closed before it, or 0. If
+    /// memory allocation fails, nothing is recorded.
     pub fn close(&mut self, epoch: Epoch, prev: Epoch) -> Result<(), NoMemory>
         ensures ok { OnOk result (closes_kept self.new ≡ closes_kept self.old
             ++ (epoch.0, prev.0) ∷ []) }
-        ensures memory { OnErr result (closes_kept self.new ≡ closes_kept self.old) }
+        ensures opened { OnOk result (open_of self.new ≡ None) }
+        ensures memory { OnErr result ((closes_kept self.new ≡ closes_kept self.old)
+            × (open_of self.new ≡ open_of self.old)) }
         ensures kept { (e b : ℕ) → changes_kept self.new e b ≡ changes_kept self.old e b }
         ensures since { since_of self.new ≡ since_of self.old }
         ensures buckets { (b : ℕ) → IsBucketOf self.old b → IsBucketOf self.new b }
     {
         self.closes.push_back(Close { epoch, prev })?;
+        self.open_epoch = None;
         Ok(())
     }
 
@@ -116,6 +126,7 @@ impl BucketBuffer {
             ≡ (if nat_le e through.0 then [] else changes_kept self.old e b) }
         ensures closes { closes_kept self.new
             ≡ filter (λ close. nat_lt through.0 close.0) (closes_kept self.old) }
+        ensures opened { open_of self.new ≡ open_of self.old }
         ensures since { since_of self.new ≡ since_of self.old }
         ensures buckets { (b : ℕ) → IsBucketOf self.old b → IsBucketOf self.new b }
     {
@@ -123,13 +134,12 @@ impl BucketBuffer {
         forget_closes(&mut self.closes, through.0);
     }
 
-    /// Returns the messages of a bucket that it holds, in the order of a resend, when `opened` is
-    /// the open epoch: for each closed epoch, the oldest first, the Parts and then the Done; last
-    /// the Parts of the open epoch.
-    pub fn messages(&self, bucket: u32, opened: Epoch) -> Result<Messages, NoMemory>
+    /// Returns the messages of a bucket that it holds, in the order of a resend: for each closed
+    /// epoch, the oldest first, the Parts and then the Done; last the Parts of the open epoch.
+    pub fn messages(&self, bucket: u32) -> Result<Messages, NoMemory>
         requires bucket { IsBucketOf self.now bucket }
         requires fits { (e : ℕ) → length (changes_kept self.now e bucket) < 2 ^ 32 }
-        ensures { IfOk result (λ messages. messages ≡ messages_kept self.now bucket opened.0) }
+        ensures { IfOk result (λ messages. messages ≡ messages_kept self.now bucket) }
     {
         let alloc = self.alloc;
         let epochs = &self.buckets[(bucket - self.first) as usize];
@@ -139,8 +149,11 @@ impl BucketBuffer {
             let changes = changes_of(epochs, close.epoch.0);
             push_closed(alloc, &mut messages, bucket, close, changes)?;
         }
-        let changes = changes_of(epochs, opened.0);
-        push_parts(alloc, &mut messages, bucket, opened, changes)?;
+        let Some(epoch) = self.open_epoch else {
+            return Ok(messages);
+        };
+        let changes = changes_of(epochs, epoch.0);
+        push_parts(alloc, &mut messages, bucket, epoch, changes)?;
         Ok(messages)
     }
 

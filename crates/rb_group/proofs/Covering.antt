@@ -1,9 +1,9 @@
 -- What is sent, read off the buffers of nodes that cover.
-use Rattle.std.proofs.Common.{◌≡◌, ◌⊎◌, inl, inr, ℕ, ◌+◌, ◌<◌, ◌≤◌, zero, suc, Bool, true, false, cond, List, [], ◌∷◌, ◌++◌, length, map, refl, subst, sym, ap, ◌∙◌, arith, add-one}
-use Rattle.std.specs.Prelude.{◌&&◌, if◌then◌else◌, nat_le, nat_lt, Option, Some, None, filter, unwrap_or}
+use Rattle.std.proofs.Common.{◌≡◌, ℕ, ◌+◌, ◌<◌, ◌≤◌, zero, suc, Bool, true, false, cond, List, [], ◌∷◌, ◌++◌, length, map, refl, subst, sym, ap, ◌∙◌, arith, add-one}
+use Rattle.std.specs.Prelude.{◌&&◌, if◌then◌else◌, nat_le, Option, Some, None, filter, unwrap_or}
 use Rattle.std.specs.List.{find, flat_map, AllByRecursion, enumerate_from}
 use Rattle.std.specs.Option.{option_map, option_map_or}
-use Rattle.std.proofs.lemmas.Bool.{cases_lt, le-leb, lt-ltb, le-ltb, leb-true}
+use Rattle.std.proofs.lemmas.Bool.{le-leb, leb-true}
 use Rattle.rb_base.specs.declared.change.Change.{Change}
 use Rattle.rb_base.specs.declared.message.Message.{Message}
 use Rattle.rb_base.specs.declared.message.Message.TheVariants.{Part, Done}
@@ -12,65 +12,73 @@ use Rattle.rb_bucket.specs.Bucket as node
 use Rattle.rb_bucket.specs.Bucket.{Rising}
 use Rattle.rb_bucket.specs.declared.bucket.BucketBuffer.{BucketBuffer}
 use Rattle.rb_group.specs.declared.group.Group.{Group}
-use Rattle.rb_group.specs.Kept.{Kept, HoldsFrom, HoldsNode, numbers_of, since_in, needed_in, covers_in, parts_in, done_in, unacknowledged_in, again_in}
+use Rattle.rb_group.specs.Kept.{Kept, IsOpenOf, is_after, HoldsFrom, HoldsNode, numbers_of, since_in, needed_in, covers_in, parts_in, done_in, unacknowledged_in, again_in}
 use Rattle.rb_group.specs.Group.{IsOrdered, Keeps, IsNumberOf}
 use Rattle.rb_group.specs.Nodes.{numbers_from, numbers_in, buffer_of, count_of, again_of}
+use Rattle.rb_group.proofs.After.{after_more}
 use Rattle.rb_group.proofs.Lists.{map_more, flat_more, flat_filter_more, filter_more}
 use Rattle.rb_group.proofs.Holding.{held_here}
 use Rattle.rb_group.proofs.Standing.{held_node}
 
 -- what is said of closed epochs that are all late enough
-all_late : {X : Type 0} (since a n : ℕ) (f g : ℕ × ℕ → List X) (cs : List (ℕ × ℕ)) → since ≤ n → a < n → AllByRecursion (λ y. n < y) (map (λ close. close.0) cs) →
-    ((close : ℕ × ℕ) → since ≤ close.0 → a < close.0 → f close ≡ g close) →
-    flat_map f (filter (λ (close : ℕ × ℕ). nat_le since close.0 && nat_lt a close.0) cs) ≡ flat_map g (filter (λ (close : ℕ × ℕ). nat_lt a close.0) cs)
-all_late since a n f g [] from above all same = refl
-all_late {X} since a n f g (c ∷ cs) from above all same =
-    rw (le-leb since c.0 (omega (arith, all.0)), lt-ltb a c.0 (omega (arith, all.0)), same c (omega (arith, all.0)) (omega (arith, all.0)), all_late since a n f g cs from above all.1 same) refl
+all_late : {X : Type 0} (since n : ℕ) (a : Option ℕ) (f g : ℕ × ℕ → List X) (cs : List (ℕ × ℕ)) → since ≤ n → is_after a n ≡ true → AllByRecursion (λ y. n < y) (map (λ close. close.0) cs) →
+    ((close : ℕ × ℕ) → since ≤ close.0 → is_after a close.0 ≡ true → f close ≡ g close) →
+    flat_map f (filter (λ (close : ℕ × ℕ). nat_le since close.0 && is_after a close.0) cs) ≡ flat_map g (filter (λ (close : ℕ × ℕ). is_after a close.0) cs)
+all_late since n a f g [] from above all same = refl
+all_late {X} since n a f g (c ∷ cs) from above all same =
+    let after : is_after a c.0 ≡ true = after_more a n c.0 above (omega (arith, all.0)) in
+    rw (le-leb since c.0 (omega (arith, all.0)), after, same c (omega (arith, all.0)) after, all_late since n a f g cs from above all.1 same) refl
 
 -- what is said of the closed epochs of a node that covers
-late_enough : {X : Type 0} (since a top : ℕ) (f g : ℕ × ℕ → List X) (cs : List (ℕ × ℕ)) → Rising top (map (λ close. close.0) cs) → since ≤ unwrap_or (find (nat_lt a) (map (λ close. close.0) cs)) top →
-    ((close : ℕ × ℕ) → since ≤ close.0 → a < close.0 → f close ≡ g close) →
-    flat_map f (filter (λ (close : ℕ × ℕ). nat_le since close.0 && nat_lt a close.0) cs) ≡ flat_map g (filter (λ (close : ℕ × ℕ). nat_lt a close.0) cs)
-late_enough since a top f g [] rising covers same = refl
-late_enough since a top f g (c ∷ cs) rising covers same = go (cases_lt a c.0) (λ rest. late_enough since a top f g cs rising.2 rest same)
+late_enough : {X : Type 0} (since top : ℕ) (a : Option ℕ) (f g : ℕ × ℕ → List X) (cs : List (ℕ × ℕ)) → Rising top (map (λ close. close.0) cs) → since ≤ unwrap_or (find (is_after a) (map (λ close. close.0) cs)) top →
+    ((close : ℕ × ℕ) → since ≤ close.0 → is_after a close.0 ≡ true → f close ≡ g close) →
+    flat_map f (filter (λ (close : ℕ × ℕ). nat_le since close.0 && is_after a close.0) cs) ≡ flat_map g (filter (λ (close : ℕ × ℕ). is_after a close.0) cs)
+late_enough since top a f g [] rising covers same = refl
+late_enough since top a f g (c ∷ cs) rising covers same = go (is_after a c.0) refl (λ rest. late_enough since top a f g cs rising.2 rest same)
   where
-    go : (a < c.0) ⊎ (c.0 ≤ a) → (since ≤ unwrap_or (find (nat_lt a) (map (λ close. close.0) cs)) top →
-        flat_map f (filter (λ (close : ℕ × ℕ). nat_le since close.0 && nat_lt a close.0) cs) ≡ flat_map g (filter (λ (close : ℕ × ℕ). nat_lt a close.0) cs)) →
-        flat_map f (filter (λ (close : ℕ × ℕ). nat_le since close.0 && nat_lt a close.0) (c ∷ cs)) ≡ flat_map g (filter (λ (close : ℕ × ℕ). nat_lt a close.0) (c ∷ cs))
-    go (inl above) rest =
-        let from : since ≤ c.0 = subst (λ (t : Bool). since ≤ unwrap_or (cond t (Some c.0) (find (nat_lt a) (map (λ close. close.0) cs))) top) (lt-ltb a c.0 above) covers in
-        rw (le-leb since c.0 from, lt-ltb a c.0 above, same c from above, all_late since a c.0 f g cs from above rising.1 same) refl
-    go (inr under) rest =
-        let tail : since ≤ unwrap_or (find (nat_lt a) (map (λ close. close.0) cs)) top = subst (λ (t : Bool). since ≤ unwrap_or (cond t (Some c.0) (find (nat_lt a) (map (λ close. close.0) cs))) top) (le-ltb a c.0 under) covers in
-        rw (le-ltb a c.0 under, and_false (nat_le since c.0)) (rest tail)
+    go : (t : Bool) → is_after a c.0 ≡ t → (since ≤ unwrap_or (find (is_after a) (map (λ close. close.0) cs)) top →
+        flat_map f (filter (λ (close : ℕ × ℕ). nat_le since close.0 && is_after a close.0) cs) ≡ flat_map g (filter (λ (close : ℕ × ℕ). is_after a close.0) cs)) →
+        flat_map f (filter (λ (close : ℕ × ℕ). nat_le since close.0 && is_after a close.0) (c ∷ cs)) ≡ flat_map g (filter (λ (close : ℕ × ℕ). is_after a close.0) (c ∷ cs))
+    go true above rest =
+        let from : since ≤ c.0 = subst (λ (t : Bool). since ≤ unwrap_or (cond t (Some c.0) (find (is_after a) (map (λ close. close.0) cs))) top) above covers in
+        rw (le-leb since c.0 from, above, same c from above, all_late since c.0 a f g cs from above rising.1 same) refl
+    go false under rest =
+        let tail : since ≤ unwrap_or (find (is_after a) (map (λ close. close.0) cs)) top = subst (λ (t : Bool). since ≤ unwrap_or (cond t (Some c.0) (find (is_after a) (map (λ close. close.0) cs))) top) under covers in
+        rw (under, and_false (nat_le since c.0)) (rest tail)
       where
         and_false : (t : Bool) → (t && false) ≡ false
         and_false true = refl
         and_false false = refl
 
 -- the needed epoch is not above the open one
-needed_low : (a top : ℕ) (xs : List ℕ) → Rising top xs → unwrap_or (find (nat_lt a) xs) top ≤ top
+needed_low : (a : Option ℕ) (top : ℕ) (xs : List ℕ) → Rising top xs → unwrap_or (find (is_after a) xs) top ≤ top
 needed_low a top [] rising = omega arith
-needed_low a top (x ∷ xs) rising = go (nat_lt a x) (needed_low a top xs rising.2)
+needed_low a top (x ∷ xs) rising = go (is_after a x) (needed_low a top xs rising.2)
   where
-    go : (t : Bool) → unwrap_or (find (nat_lt a) xs) top ≤ top → unwrap_or (cond t (Some x) (find (nat_lt a) xs)) top ≤ top
+    go : (t : Bool) → unwrap_or (find (is_after a) xs) top ≤ top → unwrap_or (cond t (Some x) (find (is_after a) xs)) top ≤ top
     go true rest = omega (arith, rising.0)
     go false rest = rest
 
+-- the messages of the open epoch
+open_messages : (since : ℕ) (buffer : BucketBuffer) (opened bucket : ℕ) (o : Option ℕ) → IsOpenOf o since opened buffer → option_map_or (node.parts_kept buffer bucket) o [] ≡ node.parts_kept buffer bucket opened
+open_messages since buffer opened bucket None none = ap (λ (cs : List Change). map (λ numbered. Part bucket (record { 0 = opened }) numbered.0 numbered.1) (enumerate_from 0 cs)) (sym (none bucket))
+open_messages since buffer opened bucket (Some epoch) is = ap (node.parts_kept buffer bucket) is.0
+
 -- a node that covers has all that is not acknowledged
-pub covering_messages : (since : ℕ) (buffer : BucketBuffer) (kept : Kept) (bucket : ℕ) → HoldsFrom since buffer kept → IsOrdered kept → since ≤ needed_in kept →
-    node.messages_kept buffer bucket kept.opened ≡ unacknowledged_in kept bucket
+pub covering_messages : (since : ℕ) (buffer : BucketBuffer) (kept : Kept) (bucket : ℕ) → HoldsFrom since buffer kept → IsOrdered kept → since ≤ needed_in kept → node.messages_kept buffer bucket ≡ unacknowledged_in kept bucket
 unfolding node.messages_kept
 covering_messages since buffer kept bucket holds order covers =
-    ap (λ (closes : List (ℕ × ℕ)). flat_map (λ (close : ℕ × ℕ). node.parts_kept buffer bucket close.0 ++ node.done_kept buffer bucket close ∷ []) closes ++ node.parts_kept buffer bucket kept.opened) holds.closes
-    ∙ ap (λ (ms : List Message). ms ++ node.parts_kept buffer bucket kept.opened)
-    (late_enough since kept.acknowledged kept.opened (λ (close : ℕ × ℕ). node.parts_kept buffer bucket close.0 ++ node.done_kept buffer bucket close ∷ []) (λ (close : ℕ × ℕ). parts_in kept bucket close.0 ++ done_in kept bucket close ∷ [])
+    ap (λ (closes : List (ℕ × ℕ)). flat_map (λ (close : ℕ × ℕ). node.parts_kept buffer bucket close.0 ++ node.done_kept buffer bucket close ∷ []) closes ++ node.open_parts_kept buffer bucket) holds.closes
+    ∙ ap (λ (ms : List Message). ms ++ node.open_parts_kept buffer bucket)
+    (late_enough since kept.opened kept.acknowledged (λ (close : ℕ × ℕ). node.parts_kept buffer bucket close.0 ++ node.done_kept buffer bucket close ∷ []) (λ (close : ℕ × ℕ). parts_in kept bucket close.0 ++ done_in kept bucket close ∷ [])
     kept.closes order.closes covers same)
-    ∙ ap (λ (cs : List Change). flat_map (λ (close : ℕ × ℕ). parts_in kept bucket close.0 ++ done_in kept bucket close ∷ []) (filter (λ (close : ℕ × ℕ). nat_lt kept.acknowledged close.0) kept.closes)
+    ∙ ap (λ (ms : List Message). flat_map (λ (close : ℕ × ℕ). parts_in kept bucket close.0 ++ done_in kept bucket close ∷ []) (filter (λ (close : ℕ × ℕ). is_after kept.acknowledged close.0) kept.closes) ++ ms)
+    (open_messages since buffer kept.opened bucket (node.open_of buffer) holds.opened)
+    ∙ ap (λ (cs : List Change). flat_map (λ (close : ℕ × ℕ). parts_in kept bucket close.0 ++ done_in kept bucket close ∷ []) (filter (λ (close : ℕ × ℕ). is_after kept.acknowledged close.0) kept.closes)
     ++ map (λ numbered. Part bucket (record { 0 = kept.opened }) numbered.0 numbered.1) (enumerate_from 0 cs))
     (held_here since buffer kept kept.opened bucket holds (let low = needed_low kept.acknowledged kept.opened (map (λ close. close.0) kept.closes) order.closes in omega arith) order.acknowledged)
   where
-    same : (close : ℕ × ℕ) → since ≤ close.0 → kept.acknowledged < close.0 →
+    same : (close : ℕ × ℕ) → since ≤ close.0 → is_after kept.acknowledged close.0 ≡ true →
         ◌≡◌ {A = List Message} (node.parts_kept buffer bucket close.0 ++ node.done_kept buffer bucket close ∷ []) (parts_in kept bucket close.0 ++ done_in kept bucket close ∷ [])
     same close from above = ap (λ (cs : List Change). map (λ numbered. Part bucket (record { 0 = close.0 }) numbered.0 numbered.1) (enumerate_from 0 cs) ++ Done bucket (record { 0 = close.0 }) (record { 0 = close.1 }) (length cs) ∷ [])
         (held_here since buffer kept close.0 bucket holds from above)
@@ -80,10 +88,9 @@ pub again_same : (group : Group) (kept : Kept) (sender bucket : ℕ) → Keeps g
 again_same group kept sender bucket keeps is covers = go (buffer_of group sender) (since_in kept sender) (held_node group kept sender keeps is) covers
   where
     go : (b : Option BucketBuffer) (s : Option ℕ) → HoldsNode b s kept → option_map_or (λ since. nat_le since (needed_in kept)) s false ≡ true →
-        again_in kept sender bucket ≡ option_map_or (λ buffer. sent_from sender (node.messages_kept buffer bucket group.opened.0)) b []
+        again_in kept sender bucket ≡ option_map_or (λ buffer. sent_from sender (node.messages_kept buffer bucket)) b []
     go None None holds up = absurd (let f : false ≡ true = up in cc)
-    go (Some b) (Some s) holds up = ap (sent_from sender) (sym (covering_messages s b kept bucket holds keeps.order (leb-true s (needed_in kept) up))
-        ∙ ap (node.messages_kept b bucket) (sym keeps.opened))
+    go (Some b) (Some s) holds up = ap (sent_from sender) (sym (covering_messages s b kept bucket holds keeps.order (leb-true s (needed_in kept) up)))
     go None (Some s) holds up = absurd holds
     go (Some b) None holds up = absurd holds
 
@@ -103,7 +110,7 @@ count_same group kept sender bucket keeps is covers = go (buffer_of group sender
 -- a buffer holds no more than was done
 pub within : (buffer : BucketBuffer) (since : Option ℕ) (kept : Kept) (e bucket : ℕ) → HoldsNode (Some buffer) since kept → length (node.changes_kept buffer e bucket) ≤ length (kept.changes e bucket)
 within buffer None kept e bucket holds = absurd holds
-within buffer (Some since) kept e bucket holds = subst (λ (cs : List Change). length cs ≤ length (kept.changes e bucket)) (sym (holds.changes e bucket)) (go (nat_le since e && nat_lt kept.acknowledged e))
+within buffer (Some since) kept e bucket holds = subst (λ (cs : List Change). length cs ≤ length (kept.changes e bucket)) (sym (holds.changes e bucket)) (go (nat_le since e && is_after kept.acknowledged e))
   where
     go : (t : Bool) → length (if t then kept.changes e bucket else []) ≤ length (kept.changes e bucket)
     go true = omega arith
@@ -148,11 +155,11 @@ filter_same p q first (suc n) same =
 
 -- a node that covers is up, and its buffer has all that is not acknowledged of a bucket
 pub covering_holds : (group : Group) (kept : Kept) (number bucket : ℕ) → Keeps group kept → IsNumberOf kept number → covers_in kept number ≡ true →
-    option_map (λ buffer. node.messages_kept buffer bucket kept.opened) (buffer_of group number) ≡ Some (unacknowledged_in kept bucket)
+    option_map (λ buffer. node.messages_kept buffer bucket) (buffer_of group number) ≡ Some (unacknowledged_in kept bucket)
 covering_holds group kept number bucket keeps is covers = go (buffer_of group number) (since_in kept number) (held_node group kept number keeps is) covers
   where
     go : (b : Option BucketBuffer) (s : Option ℕ) → HoldsNode b s kept → option_map_or (λ since. nat_le since (needed_in kept)) s false ≡ true →
-        option_map (λ buffer. node.messages_kept buffer bucket kept.opened) b ≡ Some (unacknowledged_in kept bucket)
+        option_map (λ buffer. node.messages_kept buffer bucket) b ≡ Some (unacknowledged_in kept bucket)
     go None None holds up = absurd (let f : false ≡ true = up in cc)
     go (Some b) (Some s) holds up = ap (λ (ms : List Message). Some ms) (covering_messages s b kept bucket holds keeps.order (leb-true s (needed_in kept) up))
     go None (Some s) holds up = absurd holds

@@ -1,3 +1,4 @@
+mod After
 pub mod Lists
 mod Holding
 mod Standing

@@ -15,7 +15,9 @@ use Rattle.std.proofs.lemmas.Bool.{lt-ltb, le-ltb}
 use Rattle.std.proofs.lemmas.Option.{slice_get-get_or, unwrap_or-slice_get}
 use Rattle.rb_message_defs.proofs.Messages.{all_mapped, all_below, all_joined}
 use Rattle.rb_bucket.specs.Bucket.{Rising}
+use Rattle.rb_group.specs.Kept.{is_after, acknowledged_after}
 use Rattle.rb_group.specs.Nodes.{epoch_numbers, numbers_from}
+use Rattle.rb_group.proofs.After.{after_both, filter_both}
 
 -- an item written
 pub slice_get_set : {X : Type 0} (xs : List X) (i : ℕ) (x : X) (j : ℕ) → i < length xs → slice_get (set xs i x) j ≡ cond (i == j) (Some x) (slice_get xs j)
@@ -86,15 +88,9 @@ done_next {X} P now at new within here done k x below is = go (cases_eq at k) (s
     go (inl same) found = subst (λ (i : ℕ). P i x) same (subst (P at) (some_is new x (sym (ap (λ (b : Bool). cond b (Some new) (slice_get now k)) (eq-eqb at k same)) ∙ found)) here)
     go (inr differs) found = done k x (omega arith) (sym (ap (λ (b : Bool). cond b (Some new) (slice_get now k)) (ne_eqb at k differs)) ∙ found)
 
--- numbers above one, of those above a lower one
-pub following : (a t : ℕ) (xs : List ℕ) → a ≤ t → filter (nat_lt t) (filter (nat_lt a) xs) ≡ filter (nat_lt t) xs
-following a t [] below = refl
-following a t (x ∷ xs) below = go (cases_lt t x) (cases_lt a x) (following a t xs below)
-  where
-    go : (t < x) ⊎ (x ≤ t) → (a < x) ⊎ (x ≤ a) → filter (nat_lt t) (filter (nat_lt a) xs) ≡ filter (nat_lt t) xs → filter (nat_lt t) (filter (nat_lt a) (x ∷ xs)) ≡ filter (nat_lt t) (x ∷ xs)
-    go (inl above) _ rest = rw (lt-ltb a x (omega arith), lt-ltb t x above, rest) refl
-    go (inr under) (inl above) rest = rw (lt-ltb a x above, le-ltb t x under) rest
-    go (inr under) (inr old) rest = rw (le-ltb a x old, le-ltb t x under) rest
+-- numbers after one, of those after the acknowledged ones
+pub following : (a : Option ℕ) (t : ℕ) (xs : List ℕ) → filter (nat_lt t) (filter (is_after a) xs) ≡ filter (is_after (Some (acknowledged_after a t))) xs
+following a t xs = filter_both (nat_lt t) (is_after a) (is_after (Some (acknowledged_after a t))) xs (after_both a t)
 
 -- if the first of rising epochs is above one, all are
 all_later : (top through x : ℕ) (xs : List ℕ) → Rising top (x ∷ xs) → through < x → x ∷ xs ≡ filter (nat_lt through) (x ∷ xs)

@@ -1,16 +1,17 @@
 -- Each bucket's owner goes on to cover, whatever is done in a group that is not lost.
 use Rattle.std.proofs.Common.{◌≡◌, ◌⊎◌, inl, inr, ℕ, ◌+◌, ◌-◌, ◌<◌, ◌≤◌, Bool, true, false, cond, List, [], ◌∷◌, ◌++◌, length, map, refl, subst, sym, ap, ◌∙◌, arith}
-use Rattle.std.specs.Prelude.{◌==◌, not, if◌then◌else◌, nat_le, nat_lt, Option, Some, None, filter, unwrap_or}
+use Rattle.std.specs.Prelude.{◌==◌, ◌&&◌, not, if◌then◌else◌, nat_le, nat_lt, Option, Some, None, filter, unwrap_or}
 use Rattle.std.specs.List.{slice_get, find, AllByRecursion}
 use Rattle.std.specs.Option.{option_map, option_map_or}
-use Rattle.std.proofs.lemmas.Bool.{and_parts, cases_eq, cases_lt, eq-eqb, ne_eqb, le-leb, leb-true, lt-ltb, le-ltb, ltb-true}
+use Rattle.std.proofs.lemmas.Bool.{and_parts, cases_eq, eq-eqb, ne_eqb, le-leb, leb-true, ltb-true}
 use Rattle.std.proofs.lemmas.List.{map-append}
 use Rattle.std.proofs.lemmas.Option.{slice_get-map}
 use Rattle.rb_message_defs.specs.Message.{home_node}
 use Rattle.rb_message_defs.proofs.Messages.{all_joined}
 use Rattle.rb_bucket.specs.Bucket.{Rising}
-use Rattle.rb_group.specs.Kept.{Kept, numbers_of, since_in, owner_in, needed_in, covers_in, returns_in, others_after, successor_in, only_closed, with_close, with_since, with_takeover, with_acknowledged}
+use Rattle.rb_group.specs.Kept.{Kept, is_after, acknowledged_after, numbers_of, since_in, owner_in, needed_in, covers_in, returns_in, others_after, successor_in, only_closed, with_close, with_since, with_takeover, with_acknowledged}
 use Rattle.rb_group.specs.Group.{AllCover, IsNumberOf, IsOrdered}
+use Rattle.rb_group.proofs.After.{after_both}
 use Rattle.rb_group.proofs.Lists.{there, found_in}
 use Rattle.rb_group.proofs.Standing.{at_place, since_at, nodes_count}
 use Rattle.rb_group.proofs.Beginning.{number_at}
@@ -22,23 +23,23 @@ covers_more a b None more is = is
 covers_more a b (Some since) more is = le-leb since b (let l = leb-true since a is in omega arith)
 
 -- the needed epoch does not fall at a close
-close_rises : (acknowledged opened next : ℕ) (xs : List ℕ) → opened < next → unwrap_or (find (nat_lt acknowledged) xs) opened ≤ unwrap_or (find (nat_lt acknowledged) (xs ++ opened ∷ [])) next
-close_rises acknowledged opened next [] above = go (nat_lt acknowledged opened)
+close_rises : (acknowledged : Option ℕ) (opened next : ℕ) (xs : List ℕ) → opened < next → unwrap_or (find (is_after acknowledged) xs) opened ≤ unwrap_or (find (is_after acknowledged) (xs ++ opened ∷ [])) next
+close_rises acknowledged opened next [] above = go (is_after acknowledged opened)
   where
     go : (t : Bool) → opened ≤ unwrap_or (cond t (Some opened) None) next
     go true = omega arith
     go false = omega arith
-close_rises acknowledged opened next (x ∷ xs) above = go (nat_lt acknowledged x) (close_rises acknowledged opened next xs above)
+close_rises acknowledged opened next (x ∷ xs) above = go (is_after acknowledged x) (close_rises acknowledged opened next xs above)
   where
-    go : (t : Bool) → unwrap_or (find (nat_lt acknowledged) xs) opened ≤ unwrap_or (find (nat_lt acknowledged) (xs ++ opened ∷ [])) next →
-        unwrap_or (cond t (Some x) (find (nat_lt acknowledged) xs)) opened ≤ unwrap_or (cond t (Some x) (find (nat_lt acknowledged) (xs ++ opened ∷ []))) next
+    go : (t : Bool) → unwrap_or (find (is_after acknowledged) xs) opened ≤ unwrap_or (find (is_after acknowledged) (xs ++ opened ∷ [])) next →
+        unwrap_or (cond t (Some x) (find (is_after acknowledged) xs)) opened ≤ unwrap_or (cond t (Some x) (find (is_after acknowledged) (xs ++ opened ∷ []))) next
     go true rest = omega arith
     go false rest = rest
 
 covers_closed : (kept : Kept) (prev next number : ℕ) → kept.opened < next → covers_in kept number ≡ true → covers_in (only_closed prev next kept) number ≡ true
 covers_closed kept prev next number above is =
     covers_more (needed_in kept) (needed_in (only_closed prev next kept)) (since_in kept number)
-    (subst (λ (xs : List ℕ). needed_in kept ≤ unwrap_or (find (nat_lt kept.acknowledged) xs) next) (sym (map-append (λ (close : ℕ × ℕ). close.0) kept.closes ((kept.opened, prev) ∷ [])))
+    (subst (λ (xs : List ℕ). needed_in kept ≤ unwrap_or (find (is_after kept.acknowledged) xs) next) (sym (map-append (λ (close : ℕ × ℕ). close.0) kept.closes ((kept.opened, prev) ∷ [])))
     (close_rises kept.acknowledged kept.opened next (map (λ close. close.0) kept.closes) above))
     is
 
@@ -151,19 +152,21 @@ least_found x top test (y ∷ ys) below all = go (test y) (least_found x top tes
     go false rest = rest
 
 -- the needed epoch does not fall at an acknowledgement
-acknowledged_rises : (a b top : ℕ) (xs : List ℕ) → a ≤ b → Rising top xs → unwrap_or (find (nat_lt a) xs) top ≤ unwrap_or (find (nat_lt b) xs) top
-acknowledged_rises a b top [] more rising = omega arith
-acknowledged_rises a b top (x ∷ xs) more rising = go (cases_lt a x) (cases_lt b x) (acknowledged_rises a b top xs more rising.2)
+acknowledged_rises : (a : Option ℕ) (through top : ℕ) (xs : List ℕ) → Rising top xs → unwrap_or (find (is_after a) xs) top ≤ unwrap_or (find (is_after (Some (acknowledged_after a through))) xs) top
+acknowledged_rises a through top [] rising = omega arith
+acknowledged_rises a through top (x ∷ xs) rising =
+    subst (λ (t : Bool). unwrap_or (cond (is_after a x) (Some x) (find (is_after a) xs)) top ≤ unwrap_or (cond t (Some x) (find (is_after (Some (acknowledged_after a through))) xs)) top) (sym (after_both a through x))
+    (go (is_after a x) (nat_lt through x) (acknowledged_rises a through top xs rising.2))
   where
-    go : (a < x) ⊎ (x ≤ a) → (b < x) ⊎ (x ≤ b) → unwrap_or (find (nat_lt a) xs) top ≤ unwrap_or (find (nat_lt b) xs) top → unwrap_or (find (nat_lt a) (x ∷ xs)) top ≤ unwrap_or (find (nat_lt b) (x ∷ xs)) top
-    go (inl above) (inl over) rest = rw (lt-ltb a x above, lt-ltb b x over) (omega arith)
-    go (inl above) (inr under) rest = rw (lt-ltb a x above, le-ltb b x under) (least_found x top (nat_lt b) xs rising.0 rising.1)
-    go (inr low) (inl over) rest = absurd (omega arith)
-    go (inr low) (inr under) rest = rw (le-ltb a x low, le-ltb b x under) rest
+    go : (t u : Bool) → unwrap_or (find (is_after a) xs) top ≤ unwrap_or (find (is_after (Some (acknowledged_after a through))) xs) top →
+        unwrap_or (cond t (Some x) (find (is_after a) xs)) top ≤ unwrap_or (cond (t && u) (Some x) (find (is_after (Some (acknowledged_after a through))) xs)) top
+    go true true rest = omega arith
+    go true false rest = least_found x top (is_after (Some (acknowledged_after a through))) xs rising.0 rising.1
+    go false u rest = rest
 
 -- after an acknowledgement
-pub acknowledgement_covers : (kept : Kept) (through : ℕ) → IsOrdered kept → AllCover kept → kept.acknowledged ≤ through → AllCover (with_acknowledged through kept)
-acknowledgement_covers kept through order cover later bucket is =
+pub acknowledgement_covers : (kept : Kept) (through : ℕ) → IsOrdered kept → AllCover kept → AllCover (with_acknowledged through kept)
+acknowledgement_covers kept through order cover bucket is =
     covers_more (needed_in kept) (needed_in (with_acknowledged through kept)) (since_in kept (owner_in kept bucket))
-    (acknowledged_rises kept.acknowledged through kept.opened (map (λ close. close.0) kept.closes) later order.closes)
+    (acknowledged_rises kept.acknowledged through kept.opened (map (λ close. close.0) kept.closes) order.closes)
     (cover bucket is)

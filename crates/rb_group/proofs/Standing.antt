@@ -1,18 +1,18 @@
 -- What a group represents: read off its value, and kept from one value to the next.
 use Rattle.std.proofs.Common.{◌≡◌, ◌⊎◌, inl, inr, ℕ, ◌+◌, ◌-◌, ◌<◌, ◌≤◌, zero, suc, Bool, true, false, List, [], ◌∷◌, length, map, set, refl, subst, sym, ap, ◌∙◌, arith}
-use Rattle.std.specs.Prelude.{◌==◌, if◌then◌else◌, nat_le, nat_lt, max, Option, Some, None, filter, unwrap_or, is_some}
+use Rattle.std.specs.Prelude.{◌==◌, if◌then◌else◌, nat_le, nat_lt, Option, Some, None, filter, unwrap_or, is_some}
 use Rattle.std.specs.List.{slice_get, AllByRecursion, enumerate_from}
 use Rattle.std.specs.Option.{option_map, option_map_or}
-use Rattle.std.proofs.Math.Nat.{max-eq_left, max-eq_right}
-use Rattle.std.proofs.lemmas.Bool.{cases_eq, ne_eqb, eq-eqb}
+use Rattle.std.proofs.lemmas.Bool.{cases_eq, ne_eqb, eq-eqb, lt-ltb}
 use Rattle.std.proofs.lemmas.List.{length-set}
 use Rattle.rb_base.specs.declared.epoch.Epoch.{Epoch}
 use Rattle.rb_bucket.specs.Bucket as node
 use Rattle.rb_bucket.specs.declared.bucket.BucketBuffer.{BucketBuffer}
 use Rattle.rb_group.specs.declared.group.Group.{Group}
-use Rattle.rb_group.specs.Kept.{Kept, HoldsNode, since_in, owner_in, needed_in, covers_in, with_since, with_acknowledged}
-use Rattle.rb_group.specs.Group.{Keeps, IsNumberOf}
+use Rattle.rb_group.specs.Kept.{Kept, is_after, HoldsNode, since_in, owner_in, needed_in, covers_in, with_since, with_acknowledged}
+use Rattle.rb_group.specs.Group.{Keeps, IsNumberOf, acknowledged_of}
 use Rattle.rb_group.specs.Nodes.{AllHold, IsIn, epoch_numbers, needed_of, buffer_of, covers_of, owner_of}
+use Rattle.rb_group.proofs.After.{after_both, after_same, after_new}
 use Rattle.rb_group.proofs.Lists.{there, find_first, some_is, slice_get_set, following}
 use Rattle.rb_group.proofs.Holding.{since_same}
 
@@ -25,7 +25,7 @@ is_in group kept number keeps is =
 
 pub needed_same : (group : Group) (kept : Kept) → Keeps group kept → needed_in kept ≡ needed_of group
 needed_same group kept keeps =
-    ap (λ (o : Option ℕ). unwrap_or o kept.opened) (find_first (nat_lt kept.acknowledged) (map (λ close. close.0) kept.closes))
+    ap (λ (o : Option ℕ). unwrap_or o kept.opened) (find_first (is_after kept.acknowledged) (map (λ close. close.0) kept.closes))
     ∙ ap (λ (xs : List ℕ). unwrap_or (slice_get xs 0) kept.opened) (sym keeps.closed)
     ∙ ap (λ (n : ℕ). unwrap_or (slice_get (epoch_numbers group.closed.items) 0) n) (sym keeps.opened)
 
@@ -76,6 +76,7 @@ moved_nodes None None kept nodes owners same holds = tt
 moved_nodes (Some b) (Some s) kept nodes owners same holds = record {
   changes = holds.changes;
   closes = holds.closes;
+  opened = holds.opened;
   since_is = holds.since_is;
   buckets = λ b low high. holds.buckets b low (omega arith);
 }
@@ -88,7 +89,7 @@ pub keeps_moved : (old new : Group) (kept : Kept) (nodes : List (Option ℕ)) (o
 keeps_moved old new kept nodes owners keeps first opened acknowledged closed own own_count own_in count buffers hold = record {
   first = first ∙ keeps.first;
   opened = ap (λ (e : Epoch). e.0) opened ∙ keeps.opened;
-  acknowledged = ap (λ (e : Epoch). e.0) acknowledged ∙ keeps.acknowledged;
+  acknowledged = ap (option_map (λ (e : Epoch). e.0)) acknowledged ∙ keeps.acknowledged;
   count = buffers ∙ keeps.count ∙ sym count;
   nodes = hold;
   owners = own;
@@ -132,13 +133,13 @@ set_holds buffers kept number since buffer hold is count holds k b s at_b at_s =
         (at ∙ ap (λ (t : Bool). Some (if t then since else x)) (sym (ne_eqb (kept.first + (0 + k)) number (λ (e : kept.first + (0 + k) ≡ number). differs (omega (arith, is))))) ∙ up)
 
 -- more is acknowledged
-pub keeps_acknowledged : (old new : Group) (kept : Kept) (through : ℕ) → Keeps old kept → kept.acknowledged ≤ through → through < kept.opened → new.first ≡ old.first → new.opened ≡ old.opened → new.acknowledged.0 ≡ through →
+pub keeps_acknowledged : (old new : Group) (kept : Kept) (through : ℕ) → Keeps old kept → is_after kept.acknowledged through ≡ true → through < kept.opened → new.first ≡ old.first → new.opened ≡ old.opened → acknowledged_of new ≡ Some through →
     new.owners ≡ old.owners → length new.buffers.items ≡ length old.buffers.items → epoch_numbers new.closed.items ≡ filter (nat_lt through) (epoch_numbers old.closed.items) →
     AllHold new.buffers.items (with_acknowledged through kept) → Keeps new (with_acknowledged through kept)
 keeps_acknowledged old new kept through keeps later below first opened acknowledged owners count closed hold = record {
   first = first ∙ keeps.first;
   opened = ap (λ (e : Epoch). e.0) opened ∙ keeps.opened;
-  acknowledged = acknowledged;
+  acknowledged = acknowledged ∙ after_new kept.acknowledged through later;
   count = count ∙ keeps.count;
   nodes = hold;
   owners = ap (λ v. v.items) owners ∙ keeps.owners;
@@ -146,8 +147,8 @@ keeps_acknowledged old new kept through keeps later below first opened acknowled
   owners_in = keeps.owners_in;
   some = keeps.some;
   fits = keeps.fits;
-  order = record { closes = keeps.order.closes; acknowledged = below; later = keeps.order.later };
-  closed = closed ∙ ap (filter (nat_lt through)) keeps.closed ∙ following kept.acknowledged through (map (λ close. close.0) kept.closes) later;
+  order = record { closes = keeps.order.closes; acknowledged = after_both kept.acknowledged through kept.opened ∙ rw (keeps.order.acknowledged, lt-ltb through kept.opened below) refl; later = keeps.order.later };
+  closed = closed ∙ ap (filter (nat_lt through)) keeps.closed ∙ following kept.acknowledged through (map (λ close. close.0) kept.closes);
   countable = (let h = keeps.countable in let size : length new.owners.items ≡ length old.owners.items = ap (λ v. length v.items) owners in omega arith);
 }
 
@@ -187,9 +188,6 @@ down_is group kept number keeps is none = go (since_in kept number) (is_up_same 
     go None h = refl
     go (Some x) h = absurd (let f : true ≡ false = h in cc)
 
--- an acknowledgement of what was acknowledged before, and one of more
-pub known_already : (group : Group) (kept : Kept) (through : ℕ) → through ≤ kept.acknowledged → Keeps group kept → Keeps group (with_acknowledged (max kept.acknowledged through) kept)
-known_already group kept through before keeps = subst (λ (epoch : ℕ). Keeps group (with_acknowledged epoch kept)) (sym (max-eq_left before)) keeps
-
-pub known_now : (group : Group) (kept : Kept) (through : ℕ) → kept.acknowledged ≤ through → Keeps group (with_acknowledged through kept) → Keeps group (with_acknowledged (max kept.acknowledged through) kept)
-known_now group kept through later keeps = subst (λ (epoch : ℕ). Keeps group (with_acknowledged epoch kept)) (sym (max-eq_right later)) keeps
+-- an acknowledgement of what was acknowledged before
+pub known_already : (group : Group) (kept : Kept) (through : ℕ) → is_after kept.acknowledged through ≡ false → Keeps group kept → Keeps group (with_acknowledged through kept)
+known_already group kept through before keeps = subst (λ (last : Option ℕ). Keeps group (record kept { acknowledged = last })) (sym (after_same kept.acknowledged through before)) keeps

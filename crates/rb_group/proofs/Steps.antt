@@ -2,8 +2,7 @@
 use Rattle.std.proofs.Common.{◌≡◌, ℕ, ◌+◌, ◌-◌, ◌<◌, Bool, true, false, cond, List, [], ◌∷◌, ◌++◌, length, map, set, refl, subst, sym, ap, ◌∙◌, arith}
 use Rattle.std.specs.Prelude.{◌==◌, ◌&&◌, not, if◌then◌else◌, nat_lt, Option, Some, None, filter}
 use Rattle.std.specs.List.{slice_get, find, flat_map, AllByRecursion, enumerate_from}
-use Rattle.std.specs.Option.{option_or}
-use Rattle.std.proofs.lemmas.Bool.{lt-ltb}
+use Rattle.std.specs.Option.{option_map, option_or}
 use Rattle.std.proofs.lemmas.List.{map-append, length-map}
 use Rattle.std.proofs.lemmas.List.Elements.{filter-append}
 use Rattle.std.proofs.lemmas.List.Folds.{find-append}
@@ -16,9 +15,10 @@ use Rattle.rb_message_defs.proofs.Messages.{all_mapped, all_joined}
 use Rattle.rb_bucket.specs.Bucket.{Rising}
 use Rattle.rb_bucket.specs.declared.bucket.BucketBuffer.{BucketBuffer}
 use Rattle.rb_group.specs.declared.group.Group.{Group}
-use Rattle.rb_group.specs.Kept.{Kept, HoldsNode, numbers_of, owner_in, covers_in, returns_in, done_in, again_in, only_closed, with_close, with_since, with_takeover, sent_at_close, sent_at_resend, sent_at_takeover, others_after, successor_in, owned_in}
+use Rattle.rb_group.specs.Kept.{Kept, is_after, HoldsNode, numbers_of, owner_in, covers_in, returns_in, done_in, again_in, only_closed, with_close, with_since, with_takeover, sent_at_close, sent_at_resend, sent_at_takeover, others_after, successor_in, owned_in}
 use Rattle.rb_group.specs.Group.{Keeps, IsNumberOf, AllCover, part_sent}
 use Rattle.rb_group.specs.Nodes.{AllHold, IsIn, numbers_from, numbers_in, covers_of, owner_of, count_of, again_of, done_of, returns_of, returned_of, owner_after, others_of, owned_of, taken_of}
+use Rattle.rb_group.proofs.After.{after_more}
 use Rattle.rb_group.proofs.Lists.{numbers_count, numbers_all, numbers_above, numbers_under, find_passes, found_in, all_filter, find_same_in, rising_more}
 use Rattle.rb_group.proofs.Standing.{also_is, covers_same, owner_same, owner_is_in, moved_nodes, keeps_moved, set_holds, nodes_count}
 use Rattle.rb_group.proofs.Covering.{again_same, count_same, numbers_same, map_same, flat_same, flat_filter_same, filter_same}
@@ -115,7 +115,7 @@ pub keeps_closed : (old new : Group) (kept : Kept) (prev next : ℕ) → Keeps o
 keeps_closed old new kept prev next keeps above first opened acknowledged owners count closed hold = record {
   first = first ∙ keeps.first;
   opened = opened;
-  acknowledged = ap (λ (e : Epoch). e.0) acknowledged ∙ keeps.acknowledged;
+  acknowledged = ap (option_map (λ (e : Epoch). e.0)) acknowledged ∙ keeps.acknowledged;
   count = count ∙ keeps.count;
   nodes = hold;
   owners = ap (λ v. v.items) owners ∙ keeps.owners;
@@ -125,13 +125,13 @@ keeps_closed old new kept prev next keeps above first opened acknowledged owners
   fits = keeps.fits;
   order = record {
     closes = subst (Rising next) (sym (map-append (λ (close : ℕ × ℕ). close.0) kept.closes ((kept.opened, prev) ∷ []))) (rising_more kept.opened next (map (λ close. close.0) kept.closes) keeps.order.closes above);
-    acknowledged = (let h = keeps.order.acknowledged in omega arith);
+    acknowledged = after_more kept.acknowledged kept.opened next keeps.order.acknowledged (omega arith);
     later = λ e b late. keeps.order.later e b (omega arith);
   };
   closed = ap (map (λ (e : Epoch). e.0)) closed ∙ map-append (λ (e : Epoch). e.0) old.closed.items (old.opened ∷ [])
-      ∙ ap (λ (xs : List ℕ). xs ++ old.opened.0 ∷ []) keeps.closed ∙ ap (λ (n : ℕ). filter (nat_lt kept.acknowledged) (map (λ close. close.0) kept.closes) ++ n ∷ []) keeps.opened
-      ∙ sym (ap (filter (nat_lt kept.acknowledged)) (map-append (λ (close : ℕ × ℕ). close.0) kept.closes ((kept.opened, prev) ∷ [])) ∙ filter-append (nat_lt kept.acknowledged) (map (λ close. close.0) kept.closes) (kept.opened ∷ [])
-      ∙ ap (λ (t : Bool). filter (nat_lt kept.acknowledged) (map (λ close. close.0) kept.closes) ++ cond t (kept.opened ∷ []) []) (lt-ltb kept.acknowledged kept.opened keeps.order.acknowledged));
+      ∙ ap (λ (xs : List ℕ). xs ++ old.opened.0 ∷ []) keeps.closed ∙ ap (λ (n : ℕ). filter (is_after kept.acknowledged) (map (λ close. close.0) kept.closes) ++ n ∷ []) keeps.opened
+      ∙ sym (ap (filter (is_after kept.acknowledged)) (map-append (λ (close : ℕ × ℕ). close.0) kept.closes ((kept.opened, prev) ∷ [])) ∙ filter-append (is_after kept.acknowledged) (map (λ close. close.0) kept.closes) (kept.opened ∷ [])
+      ∙ ap (λ (t : Bool). filter (is_after kept.acknowledged) (map (λ close. close.0) kept.closes) ++ cond t (kept.opened ∷ []) []) keeps.order.acknowledged);
   countable = (let h = keeps.countable in let size : length new.owners.items ≡ length old.owners.items = ap (λ v. length v.items) owners in omega arith);
 }
 

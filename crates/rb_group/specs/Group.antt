@@ -1,35 +1,40 @@
 -- What a group's value represents, and what its calls need and return.
-use Rattle.std.specs.Prelude.{◌≡◌, ℕ, ◌+◌, ◌-◌, ◌/◌, ◌<◌, ◌≤◌, ◌^◌, true, [], map, filter, nat_lt, length, Option, Some, None, is_some}
+use Rattle.std.specs.Prelude.{◌≡◌, ℕ, ◌+◌, ◌-◌, ◌/◌, ◌<◌, ◌≤◌, ◌^◌, true, [], map, filter, length, Option, Some, None, is_some}
 use Rattle.std.specs.List.{AllByRecursion, slice_get}
+use Rattle.std.specs.Option.{option_map}
 use Rattle.rb_base.specs.declared.epoch.Epoch.{Epoch}
 use Rattle.rb_base.specs.declared.message.Sent.{Sent}
 use Rattle.rb_base.specs.declared.message.Message.TheVariants.{Part}
 use Rattle.rb_base.specs.declared.change.Change.{Change}
 use Rattle.rb_bucket.specs.Bucket.{Rising}
 use Rattle.rb_bucket.specs.declared.bucket.BucketBuffer.{BucketBuffer}
-use Rattle.rb_group.specs.Kept.{Kept, HoldsNode, since_in, owner_in, needed_in, covers_in, with_since, with_takeover, sent_at_takeover, successor_in, owned_in}
+use Rattle.rb_group.specs.Kept.{Kept, HoldsNode, is_after, since_in, owner_in, needed_in, covers_in, with_since, with_takeover, sent_at_takeover, successor_in, owned_in}
 use Rattle.rb_group.specs.declared.group.Group.{Group}
 use Rattle.rb_group.specs.declared.answers.FailOutcome.{FailOutcome}
 use Rattle.rb_group.specs.declared.answers.FailOutcome.TheVariants as outcomes
 use Rattle.rb_group.specs.declared.answers.GroupFault.{GroupFault}
 use Rattle.rb_group.specs.declared.answers.GroupFault.TheVariants as faults
 
--- closed epochs rise and are below the open one; so is the acknowledged one; nothing was done in a
--- later epoch
+-- closed epochs rise and are below the open one; the open one is not acknowledged; nothing was done
+-- in a later epoch
 pub record IsOrdered (kept : Kept) : Type 0 where
   pub closes : Rising kept.opened (map (λ close. close.0) kept.closes)
-  pub acknowledged : kept.acknowledged < kept.opened
+  pub acknowledged : is_after kept.acknowledged kept.opened ≡ true
   pub later : (epoch bucket : ℕ) → kept.opened < epoch → kept.changes epoch bucket ≡ []
 
 -- a number is one of the group's nodes and buckets
 abbrev pub IsNumberOf : Kept → (number : ℕ) → Type 0
 IsNumberOf kept number = (kept.first ≤ number) × (number < kept.first + length kept.nodes)
 
+-- the last acknowledged epoch, if any is
+abbrev pub acknowledged_of : Group → Option ℕ
+acknowledged_of group = option_map (λ (e : Epoch). e.0) group.acknowledged
+
 -- a group represents this: each node that is up has buffered its share
 pub record Keeps (group : Group) (kept : Kept) : Type 0 where
   pub first : group.first ≡ kept.first
   pub opened : group.opened.0 ≡ kept.opened
-  pub acknowledged : group.acknowledged.0 ≡ kept.acknowledged
+  pub acknowledged : acknowledged_of group ≡ kept.acknowledged
   pub count : length group.buffers.items ≡ length kept.nodes
   pub nodes : (k : ℕ) (buffer : Option BucketBuffer) (since : Option ℕ) → slice_get group.buffers.items k ≡ Some buffer → slice_get kept.nodes k ≡ Some since → HoldsNode buffer since kept
   pub owners : group.owners.items ≡ kept.owners
@@ -38,8 +43,8 @@ pub record Keeps (group : Group) (kept : Kept) : Type 0 where
   pub some : 1 ≤ length kept.nodes
   pub fits : kept.first + length kept.nodes ≤ 2 ^ 32
   pub order : IsOrdered kept
-  -- the closed epochs above the acknowledged one, oldest first
-  pub closed : map (λ (e : Epoch). e.0) group.closed.items ≡ filter (nat_lt kept.acknowledged) (map (λ close. close.0) kept.closes)
+  -- the closed epochs after the acknowledged ones, oldest first
+  pub closed : map (λ (e : Epoch). e.0) group.closed.items ≡ filter (is_after kept.acknowledged) (map (λ close. close.0) kept.closes)
   -- the buckets can be counted in 32 bits
   pub countable : length group.owners.items < 2 ^ 32
 

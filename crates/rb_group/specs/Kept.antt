@@ -1,6 +1,6 @@
 -- What a group represents: what was done in it, which of its nodes are up, and what each has
 -- buffered.
-use Rattle.std.specs.Prelude.{◌≡◌, ℕ, ◌+◌, ◌-◌, ◌==◌, ◌<◌, ◌≤◌, nat_le, nat_lt, ◌&&◌, not, Bool, false, if◌then◌else◌, List, [], ◌∷◌, ◌++◌, length, map, filter, replicate, Option, Some, None, unwrap_or}
+use Rattle.std.specs.Prelude.{◌≡◌, ℕ, ◌+◌, ◌-◌, ◌==◌, ◌<◌, ◌≤◌, nat_le, nat_lt, ◌&&◌, not, max, Bool, true, false, if◌then◌else◌, List, [], ◌∷◌, ◌++◌, length, map, filter, replicate, Option, Some, None, unwrap_or}
 use Rattle.std.specs.List.{enumerate_from, find, flat_map, slice_get}
 use Rattle.std.specs.Option.{option_map_or}
 use Rattle.rb_base.specs.declared.change.Change.{Change}
@@ -13,14 +13,14 @@ use Rattle.rb_message_defs.specs.Nodes.{sent_from}
 use Rattle.rb_bucket.specs.Bucket as node
 use Rattle.rb_bucket.specs.declared.bucket.BucketBuffer.{BucketBuffer}
 
--- the lowest bucket, which is also the lowest node; the open epoch and the acknowledged one; the
--- changes of each bucket in each epoch, in order; the closed epochs, each with the one closed
--- before it, the oldest first; for each node that is up, the first epoch that it buffers; and the
--- owner of each bucket
+-- the lowest bucket, which is also the lowest node; the open epoch; the last acknowledged one, if
+-- any is; the changes of each bucket in each epoch, in order; the closed epochs, each with the one
+-- closed before it, the oldest first; for each node that is up, the first epoch that it buffers;
+-- and the owner of each bucket
 pub record Kept : Type 0 where
   pub first : ℕ
   pub opened : ℕ
-  pub acknowledged : ℕ
+  pub acknowledged : Option ℕ
   pub changes : (epoch bucket : ℕ) → List Change
   pub closes : List (ℕ × ℕ)
   pub nodes : List (Option ℕ)
@@ -35,7 +35,7 @@ abbrev pub new_group : (first nodes opened : ℕ) → Kept
 new_group first nodes opened = record {
   first = first;
   opened = opened;
-  acknowledged = 0;
+  acknowledged = None;
   changes = λ epoch bucket. [];
   closes = [];
   nodes = replicate nodes (Some opened);
@@ -50,19 +50,30 @@ since_in kept number = unwrap_or (slice_get kept.nodes (number - kept.first)) No
 abbrev pub owner_in : Kept → (bucket : ℕ) → ℕ
 owner_in kept bucket = unwrap_or (slice_get kept.owners (bucket - kept.first)) (home_node bucket)
 
+-- an epoch is after the acknowledged ones
+abbrev pub is_after : (acknowledged : Option ℕ) → (epoch : ℕ) → Bool
+is_after acknowledged epoch = option_map_or (λ last. nat_lt last epoch) acknowledged true
+
 -- the needed epoch, the oldest that may have to be resent: the first unacknowledged closed epoch,
 -- or else the open one
 abbrev pub needed_in : Kept → ℕ
-needed_in kept = unwrap_or (find (nat_lt kept.acknowledged) (map (λ close. close.0) kept.closes)) kept.opened
+needed_in kept = unwrap_or (find (is_after kept.acknowledged) (map (λ close. close.0) kept.closes)) kept.opened
 
 -- a node covers: it is up, and buffers the needed epoch
 abbrev pub covers_in : Kept → (number : ℕ) → Bool
 covers_in kept number = option_map_or (λ since. nat_le since (needed_in kept)) (since_in kept number) false
 
+-- the open epoch that a buffer gives while `opened` is open: none, if the buffer has no change of
+-- `opened`; else `opened`, which it buffers
+abbrev pub IsOpenOf : Option ℕ → (since opened : ℕ) → BucketBuffer → Type 0
+IsOpenOf None since opened buffer = (b : ℕ) → node.changes_kept buffer opened b ≡ []
+IsOpenOf (Some epoch) since opened buffer = (epoch ≡ opened) × (since ≤ epoch)
+
 -- a node that buffers from an epoch on holds everything unacknowledged from that epoch on
 pub record HoldsFrom (since : ℕ) (buffer : BucketBuffer) (kept : Kept) : Type 0 where
-  pub changes : (e b : ℕ) → node.changes_kept buffer e b ≡ (if nat_le since e && nat_lt kept.acknowledged e then kept.changes e b else [])
-  pub closes : node.closes_kept buffer ≡ filter (λ close. nat_le since close.0 && nat_lt kept.acknowledged close.0) kept.closes
+  pub changes : (e b : ℕ) → node.changes_kept buffer e b ≡ (if nat_le since e && is_after kept.acknowledged e then kept.changes e b else [])
+  pub closes : node.closes_kept buffer ≡ filter (λ close. nat_le since close.0 && is_after kept.acknowledged close.0) kept.closes
+  pub opened : IsOpenOf (node.open_of buffer) since kept.opened buffer
   pub since_is : node.since_of buffer ≡ since
   pub buckets : (b : ℕ) → kept.first ≤ b → b < kept.first + length kept.nodes → node.IsBucketOf buffer b
 
@@ -84,7 +95,7 @@ done_in kept bucket close = Done bucket (record { 0 = close.0 }) (record { 0 = c
 -- the unacknowledged messages of a bucket
 abbrev pub unacknowledged_in : Kept → (bucket : ℕ) → List Message
 unacknowledged_in kept bucket =
-    flat_map (λ close. parts_in kept bucket close.0 ++ done_in kept bucket close ∷ []) (filter (λ close. nat_lt kept.acknowledged close.0) kept.closes)
+    flat_map (λ close. parts_in kept bucket close.0 ++ done_in kept bucket close ∷ []) (filter (λ close. is_after kept.acknowledged close.0) kept.closes)
     ++ parts_in kept bucket kept.opened
 
 -- what a node resends of a bucket
@@ -147,6 +158,10 @@ sent_at_takeover number successor kept = flat_map (again_in kept successor) (own
 abbrev pub sent_at_resend : Kept → List Sent
 sent_at_resend kept = flat_map (λ bucket. again_in kept (owner_in kept bucket) bucket) (numbers_of kept)
 
--- after all epochs up to one are acknowledged
+-- the last acknowledged epoch after all epochs up to one are acknowledged
+abbrev pub acknowledged_after : (acknowledged : Option ℕ) → (through : ℕ) → ℕ
+acknowledged_after acknowledged through = option_map_or (λ last. max last through) acknowledged through
+
+-- after all epochs up to one are acknowledged, and at least those that already were
 abbrev pub with_acknowledged : (through : ℕ) → Kept → Kept
-with_acknowledged through kept = record kept { acknowledged = through }
+with_acknowledged through kept = record kept { acknowledged = Some (acknowledged_after kept.acknowledged through) }

@@ -59,7 +59,7 @@ count_of group number bucket = option_map_or (λ buffer. length (node.changes_ke
 
 -- what a node resends of a bucket
 abbrev pub again_of : Group → (sender bucket : ℕ) → List Sent
-again_of group sender bucket = option_map_or (λ buffer. sent_from sender (node.messages_kept buffer bucket group.opened.0)) (buffer_of group sender) []
+again_of group sender bucket = option_map_or (λ buffer. sent_from sender (node.messages_kept buffer bucket)) (buffer_of group sender) []
 
 -- the Done of a bucket that its owner sends
 abbrev pub done_of : Group → (prev : Epoch) → (bucket : ℕ) → Sent

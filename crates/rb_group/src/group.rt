@@ -1,7 +1,7 @@
-ghost use Rattle.std.specs.Prelude.{◌≡◌, ◌+◌, ◌<◌, ◌≤◌, ◌^◌, ◌==◌, ◌-◌, [], true, if◌then◌else◌, ◌++◌, map, max, length, IfOk, IfErr, OnOk, Some, None, is_some};
+ghost use Rattle.std.specs.Prelude.{◌≡◌, ◌+◌, ◌<◌, ◌≤◌, ◌^◌, ◌==◌, ◌-◌, [], true, if◌then◌else◌, ◌++◌, map, not, length, IfOk, IfErr, OnOk, Some, None, is_some};
 ghost use Rattle.std.specs.List.{flat_map, find};
 ghost use Rattle.std.specs.Option.{option_map};
-ghost use Rattle.rb_group.specs.Kept.{Kept, new_group, with_part, with_close, only_closed, with_since, with_acknowledged, since_in, owner_in, covers_in, needed_in, successor_in, sent_at_close, sent_at_resend};
+ghost use Rattle.rb_group.specs.Kept.{Kept, new_group, with_part, with_close, only_closed, with_since, with_acknowledged, is_after, since_in, owner_in, covers_in, needed_in, successor_in, sent_at_close, sent_at_resend};
 
 use crate::answers::{FailOutcome, GroupFault};
 use crate::closed::forget_closed;
@@ -19,17 +19,18 @@ pub struct Group {
     // The lowest bucket, which is also the lowest node.
     first: u32,
     opened: Epoch,
-    acknowledged: Epoch,
+    // The last acknowledged epoch, if any is.
+    acknowledged: Option<Epoch>,
     // The node that sends for a bucket, by bucket.
     owners: Vec<u32>,
     // By node, the lowest first; `None` for a node that is down.
     buffers: Vec<Option<BucketBuffer>>,
-    // The closed epochs above the acknowledged one, the oldest first.
+    // The closed epochs after the acknowledged ones, the oldest first.
     closed: VecDeque<Epoch>,
 }
 
 impl Group {
-    ghost use Rattle.rb_group.specs.Group.{Keeps, IsNumberOf, CanCommit, CanClose, CanResend, CanFail, CanRestart, CanAcknowledge, part_sent, FailsTo, FailFault, RestartFault};
+    ghost use Rattle.rb_group.specs.Group.{Keeps, IsNumberOf, CanCommit, CanClose, CanResend, CanFail, CanRestart, CanAcknowledge, acknowledged_of, part_sent, FailsTo, FailFault, RestartFault};
     ghost use Rattle.rb_group.specs.Nodes.{IsIn, KeepsSome, HasCountableBuffers, CanCount, CanSend, CanSeek, CanTakeOver, numbers_from, others_of, owner_after, numbers_in, buffer_of, needed_of, covers_of, owner_of, count_of, again_of, returns_of, returned_of, done_of, taken_of, owned_of};
 
     /// Returns a group of the nodes `first` to `first + nodes - 1`, with the buckets of the same
@@ -38,7 +39,6 @@ impl Group {
     pub fn new(alloc: Global, first: u32, nodes: u32, opened: Epoch) -> Result<Group, NoMemory>
         requires some { 1 ≤ nodes }
         requires fits { first + nodes ≤ 2 ^ 32 }
-        requires positive { 0 < opened.0 }
         ensures keeps { IfOk result (λ group. Keeps group (new_group first nodes opened.0)) }
     {
         let mut owners = Vec::new(alloc);
@@ -51,7 +51,7 @@ impl Group {
             alloc,
             first,
             opened,
-            acknowledged: Epoch(0),
+            acknowledged: None,
             owners,
             buffers,
             closed: VecDeque::new(alloc),
@@ -172,14 +172,14 @@ impl Group {
     pub fn acknowledge(&mut self, through: Epoch)
         requires ready { CanAcknowledge self.old through.0 }
         ensures { (kept : Kept) → Keeps self.old kept →
-            Keeps self.new (with_acknowledged (max kept.acknowledged through.0) kept) }
+            Keeps self.new (with_acknowledged through.0 kept) }
     {
-        if through.0 <= self.acknowledged.0 {
+        if self.is_acknowledged(through) {
             return;
         }
         release_in_all(&mut self.buffers, through);
         forget_closed(&mut self.closed, through.0);
-        self.acknowledged = through;
+        self.acknowledged = Some(through);
     }
 
     /// Restarts a node that is down, with an empty buffer. Returns the first epoch that it buffers,
@@ -200,6 +200,16 @@ impl Group {
         let buffer = BucketBuffer::new(self.alloc, self.first, nodes, since)?;
         self.buffers[(node - self.first) as usize] = Some(buffer);
         Ok(since)
+    }
+
+    // Returns whether an epoch is acknowledged.
+    fn is_acknowledged(&self, epoch: Epoch) -> bool
+        ensures { result ≡ not (is_after (acknowledged_of self.now) epoch.0) }
+    {
+        match self.acknowledged {
+            Some(last) => epoch.0 <= last.0,
+            None => false,
+        }
     }
 
     // Returns the needed epoch.
@@ -264,7 +274,7 @@ impl Group {
         ensures { OnOk result (sent.new.items ≡ sent.old.items ++ again_of self.now sender bucket) }
     {
         if let Some(buffer) = self.buffer(sender) {
-            let messages = buffer.messages(bucket, self.opened)?;
+            let messages = buffer.messages(bucket)?;
             push_from(sent, sender, messages)?;
         }
         Ok(())

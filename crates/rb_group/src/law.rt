@@ -1,4 +1,4 @@
-ghost use Rattle.std.specs.Prelude.{◌≡◌, ◌+◌, ◌<◌, ℕ, length, max, Some, None};
+ghost use Rattle.std.specs.Prelude.{◌≡◌, ◌+◌, ◌<◌, ℕ, length, Some, None};
 ghost use Rattle.std.specs.List.{AllByRecursion};
 ghost use Rattle.rb_base.specs.declared.change.Change.{Change};
 ghost use Rattle.rb_group.specs.Kept.{Kept, new_group, since_in, successor_in, with_part, with_close, with_takeover, with_since, with_acknowledged};
@@ -24,5 +24,5 @@ pub fn owners_go_on_covering()
     ensures restart { (kept : Kept) (number : ℕ) → AllCover kept → since_in kept number ≡ None →
         AllCover (with_since number (Some (kept.opened + 1)) kept) }
     ensures acknowledgement { (kept : Kept) (through : ℕ) → IsOrdered kept → AllCover kept →
-        AllCover (with_acknowledged (max kept.acknowledged through) kept) }
+        AllCover (with_acknowledged through kept) }
 {}

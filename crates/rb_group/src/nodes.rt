@@ -58,7 +58,7 @@ pub fn close_in_all(
     prev: Epoch,
 ) -> Result<(), NoMemory>
     ensures kept { OnOk result ((kept : Kept) → (next : ℕ) → AllHold buffers.old.items kept →
-        kept.opened ≡ epoch.0 → IsOrdered kept →
+        kept.opened ≡ epoch.0 → IsOrdered kept → kept.opened < next →
         AllHold buffers.new.items (only_closed prev.0 next kept)) }
     ensures count { OnOk result (length buffers.new.items ≡ length buffers.old.items) }
 {
@@ -76,7 +76,7 @@ fn close_in_one(
 ) -> Result<(), NoMemory>
     ensures { OnOk result ((kept : Kept) → (since : Option ℕ) → (next : ℕ) →
         HoldsNode buffer.old since kept → kept.opened ≡ epoch.0 → IsOrdered kept →
-        HoldsNode buffer.new since (only_closed prev.0 next kept)) }
+        kept.opened < next → HoldsNode buffer.new since (only_closed prev.0 next kept)) }
 {
     if let Some(held) = buffer {
         if held.since().0 <= epoch.0 {
@@ -89,7 +89,7 @@ fn close_in_one(
 /// Releases what is acknowledged in each node's buffer.
 pub fn release_in_all(buffers: &mut Vec<Option<BucketBuffer>>, through: Epoch)
     requires ready { CanRelease buffers.old.items }
-    ensures kept { (kept : Kept) → AllHold buffers.old.items kept → kept.acknowledged ≤ through.0 →
+    ensures kept { (kept : Kept) → AllHold buffers.old.items kept →
         AllHold buffers.new.items (with_acknowledged through.0 kept) }
     ensures count { length buffers.new.items ≡ length buffers.old.items }
 {
@@ -102,7 +102,6 @@ pub fn release_in_all(buffers: &mut Vec<Option<BucketBuffer>>, through: Epoch)
 fn release_in_one(buffer: &mut Option<BucketBuffer>, through: Epoch)
     requires ready { CanReleaseOne buffer.old }
     ensures { (kept : Kept) → (since : Option ℕ) → HoldsNode buffer.old since kept →
-        kept.acknowledged ≤ through.0 →
         HoldsNode buffer.new since (with_acknowledged through.0 kept) }
 {
     if let Some(held) = buffer {

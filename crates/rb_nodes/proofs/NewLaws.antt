@@ -1,4 +1,4 @@
--- A new group represents its share of a new site.
+-- A new group represents its share of a new site, once epoch 0 is acknowledged.
 use Rattle.std.proofs.Common.{◌≡◌, ℕ, zero, suc, ◌+◌, ◌*◌, ◌<◌, ◌≤◌, Bool, true, false, List, [], ◌∷◌, ◌++◌, length, map, refl, sym, ap, subst, ◌∙◌, arith}
 use Rattle.std.specs.Prelude.{if◌then◌else◌, Option, Some, unwrap_or, replicate}
 use Rattle.std.proofs.Math.Nat.{mul-le-mul_right, suc-mul}
@@ -7,7 +7,7 @@ use Rattle.rb_journal_defs.specs.Body.{in_bucket, numbers_below}
 use Rattle.rb_journal_defs.specs.Clock.{first_epoch}
 use Rattle.rb_message_defs.specs.Message.{home_node}
 use Rattle.rb_message_defs.specs.Nodes.{Node, down, node_from, nodes_at_first, node_at, owner_in}
-use Rattle.rb_group.specs.Kept.{Kept, new_group}
+use Rattle.rb_group.specs.Kept.{Kept, new_group, with_acknowledged}
 use Rattle.rb_group.specs.Group.{Keeps}
 use Rattle.rb_group.specs.declared.group.Group.{Group}
 use Rattle.rb_message_defs.proofs.Numbers.{number_at, length_numbers}
@@ -41,7 +41,7 @@ all_own f first (suc n) top fits own =
     ∙ ap (λ (y : ℕ). map (λ step. first + step) (numbers_below n) ++ y ∷ []) (own (first + n) (omega arith))
     ∙ sym (map-append (λ step. first + step) (numbers_below n) (n ∷ []))
 
-pub new_holds : (groups replicas number opened : ℕ) (group : Group) → number < groups → opened ≡ first_epoch → Keeps group (new_group (number * replicas) replicas opened) →
+pub new_holds : (groups replicas number opened : ℕ) (group : Group) → number < groups → opened ≡ first_epoch → Keeps group (with_acknowledged 0 (new_group (number * replicas) replicas opened)) →
     GroupHolds (groups * replicas) (nothing_done opened (nodes_at_first groups replicas)) number group
 new_holds groups replicas number opened group within first_is keeps =
     keeps_same group (share (share_of all site number).nodes (share_of all site number).owners) (kept_in site all number) (λ e b. none (is_of_group site number b) b)
@@ -55,7 +55,7 @@ new_holds groups replicas number opened group within first_is keeps =
     site = nothing_done opened (nodes_at_first groups replicas)
 
     share : List (Option ℕ) → List ℕ → Kept
-    share nodes owners = record { first = number * replicas; opened = opened; acknowledged = 0; changes = λ epoch bucket. []; closes = []; nodes = nodes; owners = owners }
+    share nodes owners = record { first = number * replicas; opened = opened; acknowledged = Some 0; changes = λ epoch bucket. []; closes = []; nodes = nodes; owners = owners }
 
     fits : number * replicas + replicas ≤ groups * replicas
     fits = let h : suc number * replicas ≤ groups * replicas = mul-le-mul_right replicas (omega arith) in let s : suc number * replicas ≡ number * replicas + replicas = suc-mul number replicas in omega arith

@@ -1,7 +1,7 @@
 -- What a share of a group says: the same owners as the site, the same nodes that are up, and the
 -- same nodes that cover.
 use Rattle.std.proofs.Common.{◌≡◌, ℕ, zero, suc, ◌+◌, ◌*◌, ◌-◌, ◌<◌, ◌≤◌, Bool, true, false, List, [], ◌∷◌, map, refl, sym, ap, ◌∙◌, arith}
-use Rattle.std.specs.Prelude.{◌&&◌, nat_le, nat_lt, if◌then◌else◌, Option, Some, None, unwrap_or}
+use Rattle.std.specs.Prelude.{◌&&◌, nat_le, if◌then◌else◌, Option, Some, None, unwrap_or}
 use Rattle.std.specs.Option.{option_map_or}
 use Rattle.std.specs.List.{slice_get}
 use Rattle.rb_base.specs.declared.change.Change.{Change}
@@ -11,7 +11,7 @@ use Rattle.rb_message_defs.specs.Nodes.{Node, node_at, owner_in, covers}
 use Rattle.rb_message_defs.proofs.Numbers.{number_at}
 use Rattle.rb_bucket.specs.declared.bucket.BucketBuffer.{BucketBuffer}
 use Rattle.rb_group.specs.Kept as group
-use Rattle.rb_group.specs.Kept.{Kept, HoldsNode}
+use Rattle.rb_group.specs.Kept.{Kept, HoldsNode, is_after}
 use Rattle.rb_group.specs.Group.{Keeps}
 use Rattle.rb_group.specs.declared.group.Group.{Group}
 use Rattle.rb_nodes.specs.Nodes.{Buffered, needed_by, since_of, share_of}
@@ -27,8 +27,9 @@ same_node kept changes None None same held = held
 same_node kept changes None (Some since) same held = held
 same_node kept changes (Some buffer) None same held = held
 same_node kept changes (Some buffer) (Some since) same held = record {
-  changes = λ e b. held.changes e b ∙ ap (λ (cs : List Change). if nat_le since e && nat_lt kept.acknowledged e then cs else []) (same e b);
+  changes = λ e b. held.changes e b ∙ ap (λ (cs : List Change). if nat_le since e && is_after kept.acknowledged e then cs else []) (same e b);
   closes = held.closes;
+  opened = held.opened;
   since_is = held.since_is;
   buckets = held.buckets;
 }

@@ -16,9 +16,9 @@ use Rattle.rb_group.specs.declared.answers.GroupFault.{GroupFault}
 use Rattle.rb_group.specs.declared.answers.GroupFault.TheVariants as faults
 use Rattle.rb_nodes.specs.declared.nodes.Nodes.{Nodes}
 
--- what was done at a site's nodes: the open and the acknowledged epoch; all changes of each epoch;
--- the closed epochs, each with the one closed before it, the oldest first; and the nodes with the
--- owners of the buckets
+-- what was done at a site's nodes: the open epoch; the last acknowledged one, or 0; all changes of
+-- each epoch; the closed epochs, each with the one closed before it, the oldest first; and the nodes
+-- with the owners of the buckets
 pub record Buffered : Type 0 where
   pub opened : ℕ
   pub acknowledged : ℕ
@@ -44,7 +44,7 @@ abbrev pub share_of : (buckets : ℕ) → Buffered → (number : ℕ) → Kept
 share_of buckets site number = record {
   first = number * site.members.replicas;
   opened = site.opened;
-  acknowledged = site.acknowledged;
+  acknowledged = Some site.acknowledged;
   changes = kept_in site buckets number;
   closes = site.closes;
   nodes = map (λ node. since_of (node_at site.members node)) (numbers_in site.members number);

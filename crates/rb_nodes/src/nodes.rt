@@ -37,7 +37,10 @@ impl Nodes {
     {
         let mut all = Vec::new(alloc);
         for number in 0..groups {
-            all.push(Group::new(alloc, number * replicas, replicas, opened)?)?;
+            let mut group = Group::new(alloc, number * replicas, replicas, opened)?;
+            // 0 means that no epoch is acknowledged: all epochs of a site are above it.
+            group.acknowledge(Epoch(0));
+            all.push(group)?;
         }
         Ok(Nodes {
             alloc,

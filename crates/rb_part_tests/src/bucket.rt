@@ -80,7 +80,7 @@ fn a_bucket_is_sent_again(rt: HostRuntime) -> Result<(), Fail> {
     let mut buffer = BucketBuffer::new(rt.alloc(), 2, 2, Epoch(7))?;
     buffer.add(3, Epoch(7), insert(5))?;
     buffer.close(Epoch(7), Epoch(4))?;
-    let messages = buffer.messages(3, Epoch(8))?;
+    let messages = buffer.messages(3)?;
     let messages = messages.as_slice();
     assert_eq!(rt; messages.len(), 2);
     assert_eq!(rt; part_of(messages.first()), Some((3, Epoch(7), 0, 5)));
@@ -96,7 +96,7 @@ fn a_released_epoch_is_gone(rt: HostRuntime) -> Result<(), Fail> {
     buffer.close(Epoch(7), Epoch(4))?;
     buffer.add(3, Epoch(8), insert(6))?;
     buffer.release(Epoch(7));
-    let messages = buffer.messages(3, Epoch(8))?;
+    let messages = buffer.messages(3)?;
     let messages = messages.as_slice();
     assert_eq!(rt; messages.len(), 1);
     assert_eq!(rt; part_of(messages.first()), Some((3, Epoch(8), 0, 6)));

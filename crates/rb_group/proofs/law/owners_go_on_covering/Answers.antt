@@ -1,5 +1,3 @@
-use Rattle.std.specs.Prelude.{max}
-use Rattle.std.proofs.Math.Nat.{le-max_left}
 use Rattle.rb_group.proofs.Beginning.{new_covers}
 use Rattle.rb_group.proofs.Owners.{close_covers, takeover_covers, restart_covers, acknowledgement_covers}
 use Rattle.rb_group.proofs.law.owners_go_on_covering.Goals as goal
@@ -17,4 +15,4 @@ pub returns-clause-restart : goal.returns-clause-restart
 returns-clause-restart c = restart_covers
 
 pub returns-clause-acknowledgement : goal.returns-clause-acknowledgement
-returns-clause-acknowledgement c = λ kept through order cover. acknowledgement_covers kept (max kept.acknowledged through) order cover (le-max_left kept.acknowledged through)
+returns-clause-acknowledgement c = acknowledgement_covers

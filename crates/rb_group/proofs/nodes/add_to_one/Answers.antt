@@ -1,5 +1,5 @@
 use Rattle.std.proofs.Common.{ℕ, subst, sym, ap, ◌∙◌, arith}
-use Rattle.std.specs.Prelude.{Option}
+use Rattle.std.specs.Prelude.{Option, Some}
 use Rattle.rb_base.specs.declared.change.Change.{Change}
 use Rattle.rb_bucket.specs.Bucket as node
 use Rattle.rb_bucket.specs.declared.bucket.BucketBuffer.{BucketBuffer}
@@ -13,4 +13,4 @@ returns-in_ok-add c = λ kept since holds is_open order.
     (omega (arith, c.if-since-epoch.true, c.since.ensures, is_open)) order.acknowledged
     (λ e b. c.in_ok-add.ensures.kept e b ∙ ap (λ (n : ℕ). node.with_change n c.args.bucket c.in_ok-copy.copy (node.changes_kept c.in-Some.held) e b) (sym is_open)
     ∙ ap (λ (change : Change). node.with_change kept.opened c.args.bucket change (node.changes_kept c.in-Some.held) e b) c.in_ok-copy.ensures)
-    c.in_ok-add.ensures.closes c.in_ok-add.ensures.since c.in_ok-add.ensures.buckets
+    c.in_ok-add.ensures.closes (c.in_ok-add.ensures.opened ∙ ap (λ (n : ℕ). Some n) (sym is_open)) c.in_ok-add.ensures.since c.in_ok-add.ensures.buckets

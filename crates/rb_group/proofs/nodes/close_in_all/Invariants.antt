@@ -12,5 +12,5 @@ abbrev pub invariant-loop-index : goal.invariant-loop-index
 invariant-loop-index l = record {
   count : length l.buffers.items ≡ length l.initial.buffers.items;
   todo : (k : ℕ) → l.index ≤ k → slice_get l.buffers.items k ≡ slice_get l.initial.buffers.items k;
-  done : (kept : Kept) → (next : ℕ) → AllHold l.initial.buffers.items kept → kept.opened ≡ l.epoch.0 → IsOrdered kept → (k : ℕ) (buffer : Option BucketBuffer) → k < l.index → slice_get l.buffers.items k ≡ Some buffer → (since : Option ℕ) → slice_get kept.nodes k ≡ Some since → HoldsNode buffer since (only_closed l.prev.0 next kept);
+  done : (kept : Kept) → (next : ℕ) → AllHold l.initial.buffers.items kept → kept.opened ≡ l.epoch.0 → IsOrdered kept → kept.opened < next → (k : ℕ) (buffer : Option BucketBuffer) → k < l.index → slice_get l.buffers.items k ≡ Some buffer → (since : Option ℕ) → slice_get kept.nodes k ≡ Some since → HoldsNode buffer since (only_closed l.prev.0 next kept);
 }

@@ -31,15 +31,15 @@ loop-index-preserved c =
     record {
       count = length-set _ _ _ ∙ before.count;
       todo = todo_next c.args.buffers.now.items c.loop-index.buffers.items c.loop-index.index c.release_in_one.new.buffer within before.todo;
-      done = λ kept hold below. done_next (λ (k : ℕ) (buffer : Option BucketBuffer). (since : Option ℕ) → slice_get kept.nodes k ≡ Some since → HoldsNode buffer since (with_acknowledged c.args.through.0 kept))
+      done = λ kept hold. done_next (λ (k : ℕ) (buffer : Option BucketBuffer). (since : Option ℕ) → slice_get kept.nodes k ≡ Some since → HoldsNode buffer since (with_acknowledged c.args.through.0 kept))
           c.loop-index.buffers.items c.loop-index.index c.release_in_one.new.buffer within
           (λ since is.
           let old_holds : HoldsNode c.index_mut.result.now since kept = hold c.loop-index.index c.index_mut.result.now since
           (sym (before.todo c.loop-index.index (omega arith)) ∙ slice_get_read c.loop-index.buffers.items (length c.loop-index.buffers.items) c.loop-index.index c.index_mut.result.now refl within c.index_mut.ensures.value) is in
-          c.release_in_one.ensures kept since old_holds below)
-          (before.done kept hold below);
+          c.release_in_one.ensures kept since old_holds)
+          (before.done kept hold);
     }
 
 pub returns-clause-kept : goal.returns-clause-kept
-returns-clause-kept c = λ kept hold below k buffer since at_buffer at_since.
-    c.loop-index.invariant.done kept hold below k buffer (let inside = slice_get_within c.loop-index.buffers.items k buffer at_buffer in omega (arith, c.loop-index-test.false, c.len-index-end.ensures, c.loop-index.invariant.count, c.args.buffers.now.ok.0)) at_buffer since at_since
+returns-clause-kept c = λ kept hold k buffer since at_buffer at_since.
+    c.loop-index.invariant.done kept hold k buffer (let inside = slice_get_within c.loop-index.buffers.items k buffer at_buffer in omega (arith, c.loop-index-test.false, c.len-index-end.ensures, c.loop-index.invariant.count, c.args.buffers.now.ok.0)) at_buffer since at_since

@@ -11,5 +11,5 @@ abbrev pub invariant-loop-index : goal.invariant-loop-index
 invariant-loop-index l = record {
   count : length l.buffers.items ≡ length l.initial.buffers.items;
   todo : (k : ℕ) → l.index ≤ k → slice_get l.buffers.items k ≡ slice_get l.initial.buffers.items k;
-  done : (kept : Kept) → AllHold l.initial.buffers.items kept → kept.acknowledged ≤ l.through.0 → (k : ℕ) (buffer : Option BucketBuffer) → k < l.index → slice_get l.buffers.items k ≡ Some buffer → (since : Option ℕ) → slice_get kept.nodes k ≡ Some since → HoldsNode buffer since (with_acknowledged l.through.0 kept);
+  done : (kept : Kept) → AllHold l.initial.buffers.items kept → (k : ℕ) (buffer : Option BucketBuffer) → k < l.index → slice_get l.buffers.items k ≡ Some buffer → (since : Option ℕ) → slice_get kept.nodes k ≡ Some since → HoldsNode buffer since (with_acknowledged l.through.0 kept);
 }

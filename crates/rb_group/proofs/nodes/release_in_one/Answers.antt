@@ -11,6 +11,6 @@ release-requires c =
     record { rising = (ready.0.opened, closes_rise c.in-Some.held ready.1 ready.0 (subst (λ (o : Option BucketBuffer). HoldsNode o ready.1 ready.0) c.in-Some.is ready.2) ready.3) }
 
 pub returns-in-Some : goal.returns-in-Some
-returns-in-Some c = λ kept since holds below.
-    node_released c.in-Some.held c.release.new.self since c.args.through.0 kept (subst (λ (o : Option BucketBuffer). HoldsNode o since kept) c.in-Some.is holds) below
-    c.release.ensures.kept c.release.ensures.closes c.release.ensures.since c.release.ensures.buckets
+returns-in-Some c = λ kept since holds.
+    node_released c.in-Some.held c.release.new.self since c.args.through.0 kept (subst (λ (o : Option BucketBuffer). HoldsNode o since kept) c.in-Some.is holds)
+    c.release.ensures.kept c.release.ensures.closes c.release.ensures.opened c.release.ensures.since c.release.ensures.buckets

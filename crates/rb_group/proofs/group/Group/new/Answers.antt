@@ -22,7 +22,7 @@ loop-index-preserved c =
       owners = c.in_ok-push.ensures.items ∙ ap (λ (xs : List ℕ). xs ++ (c.args.first + c.loop-index.index) ∷ []) before.owners ∙ sym (numbers_more c.args.first c.loop-index.index);
       empty = subst (λ (buffers : List (Option BucketBuffer)). All (λ (buffer : Option BucketBuffer). HoldsNode buffer (Some c.args.opened.0) (new_group c.args.first c.args.nodes c.args.opened.0)) buffers) (sym c.in_ok-push-2.ensures.items)
           (All-push (λ (buffer : Option BucketBuffer). HoldsNode buffer (Some c.args.opened.0) (new_group c.args.first c.args.nodes c.args.opened.0)) c.loop-index.buffers.items (Some c.in_ok-new.field-0) before.empty
-          (fresh c.args.opened.0 c.in_ok-new.field-0 (new_group c.args.first c.args.nodes c.args.opened.0) tt (omega arith) (λ e b late. refl) c.in_ok-new.ensures.empty c.in_ok-new.ensures.closes c.in_ok-new.ensures.since
+          (fresh c.args.opened.0 c.in_ok-new.field-0 (new_group c.args.first c.args.nodes c.args.opened.0) tt (omega arith) (λ e b late. refl) c.in_ok-new.ensures.empty c.in_ok-new.ensures.closes c.in_ok-new.ensures.opened c.in_ok-new.ensures.since
           (λ b low high. c.in_ok-new.ensures.buckets b low (subst (λ (n : ℕ). b < c.args.first + n) (replicate_count c.args.nodes (Some c.args.opened.0)) high))));
     }
 
@@ -47,7 +47,7 @@ returns c =
         owners_in = numbers_all (IsNumberOf (new_group c.args.first c.args.nodes c.args.opened.0)) c.args.first c.args.nodes (λ k below. (omega arith, omega (arith, nodes)));
         some = omega (arith, nodes, c.requires.some);
         fits = omega (arith, nodes, c.requires.fits);
-        order = record { closes = tt; acknowledged = c.requires.positive; later = λ e b late. refl };
+        order = record { closes = tt; acknowledged = refl; later = λ e b late. refl };
         closed = ap (map (λ (e : Epoch). e.0)) c.new-2.ensures.items;
         countable = omega (arith, ap length owners ∙ numbers_count c.args.first c.args.nodes);
       };

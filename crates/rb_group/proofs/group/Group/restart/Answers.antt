@@ -21,6 +21,6 @@ returns-clause-restarted c = λ kept keeps.
       down_is c.args.self.now kept c.args.node keeps is (sym c.if-is_up.ensures),
       keeps_since c.args.self.now _ kept c.args.node (Some (kept.opened + 1)) (Some c.in_ok-buffer.buffer) keeps is refl refl refl refl refl refl
           (fresh (kept.opened + 1) c.in_ok-buffer.buffer kept keeps.order.closes (omega arith) (λ e b late. keeps.order.later e b (omega arith))
-          c.in_ok-buffer.ensures.empty c.in_ok-buffer.ensures.closes (c.in_ok-buffer.ensures.since ∙ ap (λ (n : ℕ). n + 1) keeps.opened)
+          c.in_ok-buffer.ensures.empty c.in_ok-buffer.ensures.closes c.in_ok-buffer.ensures.opened (c.in_ok-buffer.ensures.since ∙ ap (λ (n : ℕ). n + 1) keeps.opened)
           (λ b low high. c.in_ok-buffer.ensures.buckets b (omega arith) (omega (arith, c.len-nodes.ensures)))),
     )

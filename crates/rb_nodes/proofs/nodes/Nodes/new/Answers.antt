@@ -1,4 +1,5 @@
 use Rattle.std.proofs.Common.{◌*◌, ℕ, refl, sym, subst, arith, List}
+use Rattle.rb_group.specs.Kept.{new_group}
 use Rattle.rb_group.specs.declared.group.Group.{Group}
 use Rattle.rb_message_defs.specs.Nodes.{nodes_at_first}
 use Rattle.rb_nodes.specs.Nodes.{nothing_done, GroupHolds, GroupsHold}
@@ -14,9 +15,9 @@ loop-number-preserved c =
     record {
       count = omega (arith, c.in_ok-push.ensures.len, before.count, c.push.new.self.ok.0, c.loop-number.all.ok.0);
       groups = subst (λ (groups : List Group). GroupsHold all site groups) (sym {A = List Group} c.in_ok-push.ensures.items)
-          (group_more all site c.loop-number.all.items c.in_ok-new.field-0 before.groups
-          (subst (λ (n : ℕ). GroupHolds all site n c.in_ok-new.field-0) (sym before.count)
-          (new_holds c.args.groups c.args.replicas c.loop-number.number c.args.opened.0 c.in_ok-new.field-0 (omega arith) c.requires.opened c.in_ok-new.ensures.keeps)));
+          (group_more all site c.loop-number.all.items c.acknowledge.new.self before.groups
+          (subst (λ (n : ℕ). GroupHolds all site n c.acknowledge.new.self) (sym before.count)
+          (new_holds c.args.groups c.args.replicas c.loop-number.number c.args.opened.0 c.acknowledge.new.self (omega arith) c.requires.opened (c.acknowledge.ensures (new_group (c.loop-number.number * c.args.replicas) c.args.replicas c.args.opened.0) c.in_ok-group.ensures.keeps))));
     }
 
 pub returns-clause-holds : goal.returns-clause-holds
