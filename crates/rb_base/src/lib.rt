@@ -2,8 +2,8 @@
 //! bodies, scripts and outcomes, as plain data, and lists of them.
 //!
 //! Every list type is the generic type [`Items`], which contracts see as a list. Every other type
-//! is a struct or an enum with public fields, which contracts see field by field. It uses only std
-//! and `byteorder`; every other crate uses it.
+//! is a struct or an enum with public fields, which contracts see field by field. The crate uses
+//! only std and `byteorder`, and every other crate uses it.
 #![tactic(auto)]
 
 mod body;

@@ -90,8 +90,8 @@ pub enum Event {
     /// Every message that was never delivered is delivered, except those of a sender that has
     /// failed since.
     DeliverAll(SiteId),
-    /// The injector takes the closed epochs in order, up to the first that is not whole. It logs
-    /// those that have something to log.
+    /// The injector takes the closed epochs in order, and stops before the first that is not whole.
+    /// It logs those that have something to log.
     Inject(SiteId),
     /// `DeliverAll`, then `Inject`.
     Log(SiteId),

@@ -4,8 +4,8 @@
 //! The one contract: a call changes only the file that it names. A call that succeeds does there
 //! what its clauses say. A call that fails leaves the file unchanged outside the range that it
 //! names. The count of faults never falls, and it has risen at `Failed`. The devices in memory say
-//! exactly when theirs rises. It uses only `rb_base`; the binlog files, the index, the injector, the
-//! site and the program use it.
+//! exactly when theirs rises. The crate uses only `rb_base`; the binlog files, the index, the
+//! injector, the site and the program use it.
 #![tactic(auto)]
 
 mod device;

@@ -2,7 +2,7 @@
 //! std's readers and writers, and calls that read or write everything.
 //!
 //! The one contract: a call reads or writes exactly the bytes that it reports, in order, and
-//! returns a failure only if its object's count of faults rose. It uses only `rb_base`; the
+//! returns a failure only if its object's count of faults rose. The crate uses only `rb_base`; the
 //! programs use it.
 #![tactic(auto)]
 
