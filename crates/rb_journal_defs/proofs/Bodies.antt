@@ -1,5 +1,5 @@
 -- The growth of a journal's bodies with its entries.
-use Rattle.std.proofs.Common.{◌≡◌, ℕ, ◌+◌, ◌%◌, ◌<◌, Bool, true, false, cond, List, [], ◌∷◌, ◌++◌, filter, map, refl, sym, ap, ◌∙◌, arith}
+use Rattle.std.proofs.Common.{◌≡◌, ℕ, ◌+◌, ◌%◌, ◌<◌, Bool, true, false, cond, List, [], ◌∷◌, ◌++◌, filter, map, refl, sym, ap, subst, ◌∙◌, arith}
 use Rattle.std.specs.Prelude.{◌==◌, Option, if◌then◌else◌}
 use Rattle.std.specs.List.{AllByRecursion, flat_map}
 use Rattle.std.proofs.lemmas.Bool.{ne_eqb}
@@ -13,6 +13,7 @@ use Rattle.rb_base.specs.declared.site.SiteId.TheVariants.{A, B}
 use Rattle.rb_base.specs.declared.change.Change.{Change}
 use Rattle.rb_base.specs.declared.body.EpochBody.{EpochBody}
 use Rattle.rb_journal_defs.specs.Journal.{Entry, Client, Applied, Closed, Journal, epoch_of, closed_epochs}
+use Rattle.rb_journal_defs.specs.Order.{AddsTo}
 use Rattle.rb_journal_defs.specs.Body.{Shape, changes_in, in_bucket, numbers_below, is_logged, last_source, reflected_in, body_with, body_of, has_something_to_log, completed_epochs, completed_bodies}
 
 -- an entry adds no change to another epoch
@@ -107,11 +108,24 @@ closed_same : (shape : Shape) (closed : ℕ) (older : Journal) (epochs : List �
 closed_same shape closed older [] = tt
 closed_same shape closed older (epoch ∷ epochs) = (body_of_closed shape epoch closed older, closed_same shape closed older epochs)
 
--- a transaction in the open epoch leaves the completed bodies unchanged
-pub completed_client : (shape : Shape) (opened transid : ℕ) (changes : List Change) (older : Journal) → AllByRecursion (λ epoch. epoch < opened) (closed_epochs older) → completed_bodies shape (Client opened transid changes ∷ older) ≡ completed_bodies shape older
-completed_client shape opened transid changes older below =
-    completed_is shape (Client opened transid changes ∷ older)
-    ∙ logged_same shape (Client opened transid changes ∷ older) older (closed_epochs older) (others_below shape (Client opened transid changes) older (closed_epochs older) below)
+pub adds_epoch : (opened : ℕ) (entry : Entry) → AddsTo opened entry → epoch_of entry ≡ opened
+adds_epoch opened (Client own transid changes) adds = adds
+adds_epoch opened (Applied own source transid accepted refreshes) adds = adds
+adds_epoch opened (Closed own) adds = absurd adds
+
+-- an entry that adds to an epoch closes none
+pub adds_closes_none : (opened : ℕ) (entry : Entry) (older : Journal) → AddsTo opened entry → closed_epochs (entry ∷ older) ≡ closed_epochs older
+adds_closes_none opened (Client own transid changes) older adds = refl
+adds_closes_none opened (Applied own source transid accepted refreshes) older adds = refl
+adds_closes_none opened (Closed own) older adds = absurd adds
+
+-- a new entry of the open epoch leaves the completed bodies unchanged
+pub completed_entered : (shape : Shape) (opened : ℕ) (entry : Entry) (older : Journal) → AddsTo opened entry → AllByRecursion (λ epoch. epoch < opened) (closed_epochs older) → completed_bodies shape (entry ∷ older) ≡ completed_bodies shape older
+completed_entered shape opened entry older adds below =
+    let own = adds_epoch opened entry adds in
+    completed_is shape (entry ∷ older)
+    ∙ ap (logged_of shape (entry ∷ older)) (adds_closes_none opened entry older adds)
+    ∙ logged_same shape (entry ∷ older) older (closed_epochs older) (others_below shape entry older (closed_epochs older) (subst (λ (o : ℕ). AllByRecursion (λ epoch. epoch < o) (closed_epochs older)) (sym own) below))
     ∙ sym (completed_is shape older)
 
 -- a close adds the body of its epoch, if that has something to log
@@ -123,25 +137,3 @@ completed_closed shape closed older =
     ∙ logged_append shape older (closed_epochs older) (closed ∷ [])
     ∙ ap (λ (bs : List EpochBody). logged_of shape older (closed_epochs older) ++ bs) (logged_of_cons shape older closed [] ∙ append-nil (if_logged (body_of shape closed older)))
     ∙ ap (λ (bs : List EpochBody). bs ++ if_logged (body_of shape closed older)) (sym (completed_is shape older))
-
--- a filter keeps a list whose items all pass its test
-filter_all : {X : Type 0} (test : X → Bool) (xs : List X) → AllByRecursion (λ x. test x ≡ true) xs → filter test xs ≡ xs
-filter_all test [] pass = refl
-filter_all test (x ∷ xs) pass = rw pass.0 (ap (λ ys. x ∷ ys) (filter_all test xs pass.1))
-
--- every change is logged
-abbrev pub AllLogged : SiteId → List Change → Type 0
-AllLogged site changes = AllByRecursion (λ change. is_logged site change ≡ true) changes
-
-one_bucket : (changes : List Change) → AllByRecursion (λ change. (bucket_number change.table change.key 1 == 0) ≡ true) changes
-one_bucket [] = tt
-one_bucket (change ∷ changes) = (rw (mod-one (change.key % 1 + change.table)) refl, one_bucket changes)
-
-pub body_of_one_bucket : (shape : Shape) (epoch : ℕ) (journal : Journal) → shape.buckets ≡ 1 → AllLogged shape.site (changes_in shape.site epoch journal) → body_of shape epoch journal ≡ body_with shape epoch (reflected_in shape.site epoch journal) (changes_in shape.site epoch journal)
-unfolding body_made
-body_of_one_bucket shape epoch journal one logged =
-    body_is_made shape epoch journal
-    ∙ ap (λ (cs : List Change). body_with shape epoch (reflected_in shape.site epoch journal) cs)
-    (ap (λ (n : ℕ). filter (is_logged shape.site) (flat_map (λ bucket. in_bucket n bucket (changes_in shape.site epoch journal)) (numbers_below n))) one
-    ∙ ap (filter (is_logged shape.site)) (append-nil (in_bucket 1 0 (changes_in shape.site epoch journal)) ∙ filter_all (λ change. bucket_number change.table change.key 1 == 0) (changes_in shape.site epoch journal) (one_bucket (changes_in shape.site epoch journal)))
-    ∙ filter_all (is_logged shape.site) (changes_in shape.site epoch journal) logged)

@@ -1,18 +1,20 @@
 -- The numbers of changes in bodies and journals.
-use Rattle.std.proofs.Common.{◌≡◌, ◌≢◌, ℕ, zero, suc, ◌+◌, ◌<◌, ◌≤◌, Bool, true, false, cond, List, [], ◌∷◌, length, filter, refl, sym, ap, subst, ◌∙◌, inl, inr, arith, eq-eqb, ne_eqb, length-append}
-use Rattle.std.specs.Prelude.{◌⊎◌, ◌==◌, sum_by, if◌then◌else◌}
+use Rattle.std.proofs.Common.{◌≡◌, ◌≢◌, ℕ, zero, suc, ◌+◌, ◌<◌, ◌≤◌, Bool, true, false, cond, List, [], ◌∷◌, ◌++◌, length, filter, refl, sym, ap, ap₂, subst, ◌∙◌, inl, inr, arith, eq-eqb, ne_eqb, length-append}
+use Rattle.std.specs.Prelude.{◌⊎◌, ◌==◌, ◌&&◌, not, sum_by, if◌then◌else◌}
 use Rattle.std.specs.List.{AllByRecursion, flat_map}
+use Rattle.std.proofs.lemmas.List.{append-nil}
+use Rattle.std.proofs.lemmas.List.Elements.{filter-append}
 use Rattle.std.proofs.lemmas.List.Sums.{sum_by-cons, sum_by-append}
 use Rattle.rb_base.specs.Bucket.{bucket_number}
+use Rattle.rb_base.specs.Site.{server_of, peer_of}
 use Rattle.rb_base.specs.declared.site.SiteId.{SiteId}
+use Rattle.rb_base.specs.declared.site.SiteId.TheVariants.{A, B}
 use Rattle.rb_base.specs.declared.change.Change.{Change}
-use Rattle.rb_journal_defs.specs.Journal.{Entry, Journal, epoch_of, changes_of}
+use Rattle.rb_journal_defs.specs.Journal.{Entry, Client, Applied, Closed, Journal, epoch_of, changes_of, own_of, status_change}
+use Rattle.rb_journal_defs.specs.Order.{MadeBy, HasAuthors, AreAuthored}
+use Rattle.rb_journal_defs.specs.Counts.{own_changes, all_changes, applied_of, applied_changes}
 use Rattle.rb_journal_defs.specs.Body.{Shape, changes_in, in_bucket, part_of, numbers_below, is_logged, body_changes}
 use Rattle.rb_journal_defs.proofs.Order.{Rises, eq_or_ne}
-
--- the number of all changes of a journal
-abbrev pub changes_made : SiteId → Journal → ℕ
-changes_made site j = sum_by (λ entry. length (changes_of site entry)) j
 
 pub filter_length : {X : Type 0} → (test : X → Bool) (xs : List X) → length (filter test xs) ≤ length xs
 filter_length test [] = omega arith
@@ -76,13 +78,33 @@ joined_length : {X : Type 0} → (f : ℕ → List X) (xs : List ℕ) → length
 joined_length f [] = refl
 joined_length f (x ∷ xs) = omega (arith, length-append (f x) (flat_map f xs), sum_by-cons (λ x. length (f x)) x xs, joined_length f xs)
 
--- a body has at most as many changes as its epoch
-pub body_length : (shape : Shape) (e : ℕ) (j : Journal) → length (body_changes shape e j) ≤ length (changes_in shape.site e j)
+-- a filter of lists that are joined is the lists' filters, joined
+filter_joined : {X : Type 0} → (test : X → Bool) (f : ℕ → List X) (xs : List ℕ) → filter test (flat_map f xs) ≡ flat_map (λ x. filter test (f x)) xs
+filter_joined test f [] = refl
+filter_joined test f (x ∷ xs) = filter-append test (f x) (flat_map f xs) ∙ ap (λ (ys : List _). filter test (f x) ++ ys) (filter_joined test f xs)
+
+-- two filters may change places
+filters_swap : {X : Type 0} → (one other : X → Bool) (xs : List X) → filter one (filter other xs) ≡ filter other (filter one xs)
+filters_swap one other [] = refl
+filters_swap one other (x ∷ xs) = go (one x) (other x) refl refl (filters_swap one other xs)
+  where
+    go : (a b : Bool) → one x ≡ a → other x ≡ b → filter one (filter other xs) ≡ filter other (filter one xs) → filter one (cond b (x ∷ filter other xs) (filter other xs)) ≡ filter other (cond a (x ∷ filter one xs) (filter one xs))
+    go true true p q more = rw p (rw q (ap (λ (ys : List _). x ∷ ys) more))
+    go true false p q more = rw q more
+    go false true p q more = rw p more
+    go false false p q more = more
+
+-- a body has at most as many changes as are logged of its epoch
+body_length : (shape : Shape) (e : ℕ) (j : Journal) → length (body_changes shape e j) ≤ length (filter (is_logged shape.site) (changes_in shape.site e j))
 body_length shape e j =
-    let parts = flat_map (λ bucket. part_of shape e bucket j) (numbers_below shape.buckets) in
-    let f = filter_length (is_logged shape.site) parts in
-    let s = joined_length (λ bucket. part_of shape e bucket j) (numbers_below shape.buckets) in
-    let b = buckets_length shape.buckets shape.buckets (changes_in shape.site e j) in
+    let logged : List Change = filter (is_logged shape.site) (changes_in shape.site e j) in
+    let part : ℕ → List Change = λ bucket. part_of shape e bucket j in
+    let in_each : ℕ → List Change = λ bucket. filter (is_logged shape.site) (part bucket) in
+    let joined : length (body_changes shape e j) ≡ length (flat_map in_each (numbers_below shape.buckets)) = ap length (filter_joined (is_logged shape.site) part (numbers_below shape.buckets)) in
+    let sum = joined_length in_each (numbers_below shape.buckets) in
+    let swapped = sum_same (λ b. length (in_each b)) (λ b. length (in_bucket shape.buckets b logged)) (numbers_below shape.buckets)
+    (λ b. ap length (filters_swap (is_logged shape.site) (λ change. bucket_number change.table change.key shape.buckets == b) (changes_in shape.site e j))) in
+    let within = buckets_length shape.buckets shape.buckets logged in
     omega arith
 
 -- rising numbers above `k` do not contain `k`
@@ -101,34 +123,131 @@ rising_once k n top (x ∷ xs) rises = go (eq_or_ne k x) (rising_once k n top xs
         let o : one_at k n x ≡ n = rw (eq-eqb k x q) refl in omega (arith, sum_by-cons (one_at k n) x xs)
     go (inr d) h = let o : one_at k n x ≡ 0 = rw (ne_eqb k x d) refl in omega (arith, sum_by-cons (one_at k n) x xs)
 
-in_epoch : (site : SiteId) (e : ℕ) (x : Entry) (j : Journal) → length (changes_in site e (x ∷ j)) ≡ length (changes_in site e j) + one_at (epoch_of x) (length (changes_of site x)) e
-in_epoch site e x j = length-append (changes_in site e j) (if epoch_of x == e then changes_of site x else []) ∙ ap (λ (n : ℕ). length (changes_in site e j) + n) (go (epoch_of x == e))
+-- the sum of a weight over the entries of an epoch
+pub weight_in : (weight : Entry → ℕ) (e : ℕ) → Journal → ℕ
+weight_in weight e [] = 0
+weight_in weight e (x ∷ j) = weight_in weight e j + one_at (epoch_of x) (weight x) e
+
+-- the weights of rising epochs are at most the weight of the journal
+pub epochs_weight : (weight : Entry → ℕ) (top : ℕ) (es : List ℕ) (j : Journal) → Rises top es → sum_by (λ e. weight_in weight e j) es ≤ sum_by weight j
+unfolding weight_in
+epochs_weight weight top es [] rises = let z : sum_by (λ (e : ℕ). 0) es ≡ 0 = sum_zero es in omega arith
+epochs_weight weight top es (x ∷ j) rises =
+    let two = sum_plus (λ e. weight_in weight e j) (one_at (epoch_of x) (weight x)) es in
+    let one = rising_once (epoch_of x) (weight x) top es rises in
+    let rest = epochs_weight weight top es j rises in
+    omega (arith, sum_by-cons weight x j)
+
+one_at_most : (k n e : ℕ) → one_at k n e ≤ n
+one_at_most k n e = go (k == e)
+  where
+    go : (b : Bool) → cond b n 0 ≤ n
+    go true = omega arith
+    go false = omega arith
+
+-- the weight of one epoch is at most the weight of the journal
+epoch_weight : (weight : Entry → ℕ) (e : ℕ) (j : Journal) → weight_in weight e j ≤ sum_by weight j
+unfolding weight_in
+epoch_weight weight e [] = omega arith
+epoch_weight weight e (x ∷ j) = let h = epoch_weight weight e j in let o = one_at_most (epoch_of x) (weight x) e in omega (arith, sum_by-cons weight x j)
+
+-- the number of an entry's changes
+all_weight : SiteId → Entry → ℕ
+all_weight site entry = length (changes_of site entry)
+
+in_epoch : (site : SiteId) (e : ℕ) (j : Journal) → length (changes_in site e j) ≡ weight_in (all_weight site) e j
+unfolding weight_in all_weight
+in_epoch site e [] = refl
+in_epoch site e (x ∷ j) = length-append (changes_in site e j) (if epoch_of x == e then changes_of site x else []) ∙ ap₂ (λ (m n : ℕ). m + n) (in_epoch site e j) (go (epoch_of x == e))
   where
     go : (b : Bool) → length (cond b (changes_of site x) []) ≡ cond b (length (changes_of site x)) 0
     go true = refl
     go false = refl
 
--- the changes of rising epochs are at most all changes of the journal
-pub epochs_length : (site : SiteId) (top : ℕ) (es : List ℕ) (j : Journal) → Rises top es → sum_by (λ e. length (changes_in site e j)) es ≤ changes_made site j
-epochs_length site top es [] rises = let z : sum_by (λ (e : ℕ). 0) es ≡ 0 = sum_zero es in omega arith
-epochs_length site top es (x ∷ j) rises =
-    let n = length (changes_of site x) in
-    let parts = sum_same (λ e. length (changes_in site e (x ∷ j))) (λ e. length (changes_in site e j) + one_at (epoch_of x) n e) es (λ e. in_epoch site e x j) in
-    let two = sum_plus (λ e. length (changes_in site e j)) (one_at (epoch_of x) n) es in
-    let one = rising_once (epoch_of x) n top es rises in
-    let rest = epochs_length site top es j rises in
-    omega (arith, sum_by-cons (λ (entry : Entry). length (changes_of site entry)) x j)
-
 -- the changes of one epoch are at most all changes of the journal
-pub epoch_length : (site : SiteId) (e : ℕ) (j : Journal) → length (changes_in site e j) ≤ changes_made site j
-epoch_length site e [] = omega arith
-epoch_length site e (x ∷ j) =
-    let n = length (changes_of site x) in
-    let s = in_epoch site e x j in
-    let o : one_at (epoch_of x) n e ≤ n = go (epoch_of x == e) in
-    let rest = epoch_length site e j in
-    omega (arith, sum_by-cons (λ (entry : Entry). length (changes_of site entry)) x j)
+pub epoch_length : (site : SiteId) (e : ℕ) (j : Journal) → length (changes_in site e j) ≤ all_changes site j
+unfolding all_weight
+epoch_length site e j = let same = in_epoch site e j in let h = epoch_weight (all_weight site) e j in omega arith
+
+-- the number of an entry's changes that the site made itself
+pub own_weight : Entry → ℕ
+own_weight entry = length (own_of entry)
+
+-- changes of another server are not logged
+none_logged : (site : SiteId) (server : ℕ) (changes : List Change) → server ≢ server_of site → MadeBy server changes → filter (is_logged site) changes ≡ []
+none_logged site server [] differs made = refl
+none_logged site server (change ∷ changes) differs made =
+    let other : (change.author == server_of site) ≡ false = ne_eqb change.author (server_of site) (λ same. differs (sym made.0 ∙ same)) in
+    rw other (go (not (change.table == 0)) (none_logged site server changes differs made.1))
   where
-    go : (b : Bool) → cond b (length (changes_of site x)) 0 ≤ length (changes_of site x)
-    go true = omega arith
+    go : (b : Bool) → filter (is_logged site) changes ≡ [] → cond (b && false) (change ∷ filter (is_logged site) changes) (filter (is_logged site) changes) ≡ []
+    go true more = more
+    go false more = more
+
+peer_differs : (site : SiteId) → server_of (peer_of site) ≢ server_of site
+peer_differs A = λ same. absurd (omega (arith, same))
+peer_differs B = λ same. absurd (omega (arith, same))
+
+-- an entry has at most its own changes logged
+logged_weight : (site : SiteId) (x : Entry) → HasAuthors site x → length (filter (is_logged site) (changes_of site x)) ≤ own_weight x
+unfolding own_weight
+logged_weight site (Client e t cs) authors = filter_length (is_logged site) cs
+logged_weight site (Applied e s t acc refs) authors =
+    let none = none_logged site (server_of (peer_of site)) acc (peer_differs site) authors.0 in
+    let parts = filter-append (is_logged site) (acc ++ refs) (status_change site s t ∷ []) ∙ ap (λ (cs : List Change). cs ++ []) (filter-append (is_logged site) acc refs ∙ ap (λ (cs : List Change). cs ++ filter (is_logged site) refs) none) in
+    let same = ap length (parts ∙ append-nil (filter (is_logged site) refs)) in
+    let few = filter_length (is_logged site) refs in
+    omega arith
+logged_weight site (Closed e) authors = omega arith
+
+logged_in_epoch : (site : SiteId) (e : ℕ) (j : Journal) → AreAuthored site j → length (filter (is_logged site) (changes_in site e j)) ≤ weight_in own_weight e j
+unfolding weight_in
+logged_in_epoch site e [] authored = omega arith
+logged_in_epoch site e (x ∷ j) authored =
+    let own = if epoch_of x == e then changes_of site x else [] in
+    let parts = ap length (filter-append (is_logged site) (changes_in site e j) own) ∙ length-append (filter (is_logged site) (changes_in site e j)) (filter (is_logged site) own) in
+    let rest = logged_in_epoch site e j authored.1 in
+    let one = go (epoch_of x == e) in
+    omega arith
+  where
+    go : (b : Bool) → length (filter (is_logged site) (cond b (changes_of site x) [])) ≤ cond b (own_weight x) 0
+    go true = logged_weight site x authored.0
     go false = omega arith
+
+-- a body has at most as many changes as the site made itself in its epoch
+pub body_within : (shape : Shape) (e : ℕ) (j : Journal) → AreAuthored shape.site j → length (body_changes shape e j) ≤ weight_in own_weight e j
+body_within shape e j authored = let h = body_length shape e j in let g = logged_in_epoch shape.site e j authored in omega arith
+
+-- a body has at most as many changes as the site made itself
+pub body_own : (shape : Shape) (e : ℕ) (j : Journal) → AreAuthored shape.site j → length (body_changes shape e j) ≤ own_changes j
+unfolding own_weight
+body_own shape e j authored = let h = body_within shape e j authored in let g = epoch_weight own_weight e j in omega arith
+
+-- the own changes of rising epochs are at most all own changes
+pub own_epochs : (top : ℕ) (es : List ℕ) (j : Journal) → Rises top es → sum_by (λ e. weight_in own_weight e j) es ≤ own_changes j
+unfolding own_weight
+own_epochs top es j rises = epochs_weight own_weight top es j rises
+
+-- all changes are the own ones and the applier's
+pub own_and_applied : (site : SiteId) (j : Journal) → all_changes site j ≡ own_changes j + applied_changes site j
+own_and_applied site [] = refl
+own_and_applied site (x ∷ j) =
+    omega (
+      arith,
+      sum_by-cons (λ (entry : Entry). length (changes_of site entry)) x j,
+      sum_by-cons (λ (entry : Entry). length (own_of entry)) x j,
+      sum_by-cons (λ (entry : Entry). length (applied_of site entry)) x j,
+      entry_parts x,
+      own_and_applied site j,
+    )
+  where
+    entry_parts : (x : Entry) → length (changes_of site x) ≡ length (own_of x) + length (applied_of site x)
+    entry_parts (Client e t cs) = omega arith
+    entry_parts (Applied e s t acc refs) =
+        omega (
+          arith,
+          length-append (acc ++ refs) (status_change site s t ∷ []),
+          length-append acc refs,
+          length-append acc (status_change site s t ∷ []),
+        )
+    entry_parts (Closed e) = omega arith

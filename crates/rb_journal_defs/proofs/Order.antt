@@ -8,8 +8,8 @@ use Rattle.std.proofs.lemmas.List.Elements.{filter-append}
 use Rattle.rb_base.specs.declared.site.SiteId.{SiteId}
 use Rattle.rb_journal_defs.specs.Journal.{Entry, Client, Applied, Closed, Journal, epoch_of, changes_of, closed_epochs, previous_closed}
 use Rattle.rb_journal_defs.specs.Body.{changes_in}
-use Rattle.rb_journal_defs.proofs.Bodies.{changes_in_closed}
-use Rattle.rb_journal_defs.specs.Order.{InOrder, IsClosed}
+use Rattle.rb_journal_defs.proofs.Bodies.{changes_in_closed, adds_closes_none}
+use Rattle.rb_journal_defs.specs.Order.{InOrder, IsClosed, AddsTo}
 use Rattle.rb_journal_defs.specs.Transaction.{first_of}
 
 pub eq_or_ne : (a b : ℕ) → (a ≡ b) ⊎ (a ≢ b)
@@ -392,3 +392,19 @@ pub upto_closed : (last c : ℕ) (j : Journal) → last < c → upto last (Close
 upto_closed last c j l =
     filter-append (λ epoch. nat_le epoch last) (closed_epochs j) (c ∷ [])
     ∙ rw (lt-leb c last l) (append-nil (upto last j))
+
+-- an entry that adds to the open epoch keeps the order
+pub adds_in_order : (opened : ℕ) (entry : Entry) (older : Journal) → AddsTo opened entry → InOrder opened older → InOrder opened (entry ∷ older)
+adds_in_order opened (Client own transid changes) older adds order = (adds, order)
+adds_in_order opened (Applied own source transid accepted refreshes) older adds order = (adds, order)
+adds_in_order opened (Closed own) older adds order = absurd adds
+
+-- it leaves the closed epochs closed
+pub adds_stays_closed : (opened epoch : ℕ) (entry : Entry) (older : Journal) → AddsTo opened entry → IsClosed epoch older → IsClosed epoch (entry ∷ older)
+adds_stays_closed opened epoch (Client own transid changes) older adds closed = closed
+adds_stays_closed opened epoch (Applied own source transid accepted refreshes) older adds closed = closed
+adds_stays_closed opened epoch (Closed own) older adds closed = absurd adds
+
+-- it leaves the epoch before each epoch unchanged
+pub adds_previous : (opened epoch : ℕ) (entry : Entry) (older : Journal) → AddsTo opened entry → previous_closed epoch (entry ∷ older) ≡ previous_closed epoch older
+adds_previous opened epoch entry older adds = ap (λ (epochs : List ℕ). unwrap_or (last_or None (filter (λ closed. nat_lt closed epoch) epochs)) 0) (adds_closes_none opened entry older adds)

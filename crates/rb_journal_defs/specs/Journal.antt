@@ -1,7 +1,7 @@
 -- The journal of a site, its rows and its closed epochs. As the MySQL manual describes for NDB
 -- Cluster Replication, an epoch holds whole transactions, and the applier writes its progress in
 -- the same transaction as the rows.
-use Rattle.std.specs.Prelude.{ℕ, ◌==◌, ◌&&◌, nat_lt, List, [], ◌∷◌, ◌++◌, filter, map, Bool, Option, Some, None, unwrap_or}
+use Rattle.std.specs.Prelude.{ℕ, ◌==◌, ◌&&◌, nat_lt, List, [], ◌∷◌, ◌++◌, filter, fold, Bool, Option, Some, None, unwrap_or}
 use Rattle.std.specs.List.{last_or}
 use Rattle.rb_base.specs.Site.{server_of, peer_of}
 use Rattle.rb_base.specs.declared.site.SiteId.{SiteId}
@@ -42,10 +42,22 @@ status_change site source transid =
       transid = transid;
     }
 
--- the changes of an entry, in order
+-- the changes that an entry makes to rows of the user tables, in order
+abbrev pub row_changes_of : Entry → List Change
+row_changes_of (Client epoch transid changes) = changes
+row_changes_of (Applied epoch source transid accepted refreshes) = accepted ++ refreshes
+row_changes_of (Closed epoch) = []
+
+-- those of these changes that the site made itself: its clients' changes, and its refreshes
+abbrev pub own_of : Entry → List Change
+own_of (Client epoch transid changes) = changes
+own_of (Applied epoch source transid accepted refreshes) = refreshes
+own_of (Closed epoch) = []
+
+-- all changes of an entry, in order; the last change of an applied epoch is the applier's progress
 abbrev pub changes_of : SiteId → Entry → List Change
 changes_of site (Client epoch transid changes) = changes
-changes_of site (Applied epoch source transid accepted refreshes) = accepted ++ (refreshes ++ status_change site source transid ∷ [])
+changes_of site (Applied epoch source transid accepted refreshes) = (accepted ++ refreshes) ++ status_change site source transid ∷ []
 changes_of site (Closed epoch) = []
 
 -- a change is of this key of this table
@@ -67,15 +79,14 @@ row_after_kind Remove after = None
 abbrev pub row_after : Change → Option Row
 row_after change = row_after_kind change.kind change.after
 
--- the row that changes of one key leave: the row that the last of them leaves, or the row before
--- them if there are no changes
+-- the row that changes of one key leave of a row, one change after the other
 abbrev pub row_left : List Change → Option Row → Option Row
-row_left changes row = unwrap_or (last_or None (map row_after changes)) row
+row_left changes row = fold (λ left change. row_after change) row changes
 
 -- the row that the last change of a key left; none if the key was never changed
-abbrev pub row_at : SiteId → (table key : ℕ) → Journal → Option Row
-row_at site table key [] = None
-row_at site table key (entry ∷ older) = row_left (of_key table key (changes_of site entry)) (row_at site table key older)
+abbrev pub row_at : (table key : ℕ) → Journal → Option Row
+row_at table key [] = None
+row_at table key (entry ∷ older) = row_left (of_key table key (row_changes_of entry)) (row_at table key older)
 
 -- the closed epochs, in order
 abbrev pub closed_epochs : Journal → List ℕ

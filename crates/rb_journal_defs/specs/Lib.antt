@@ -4,3 +4,4 @@ pub mod Transaction
 pub mod Table
 pub mod Clock
 pub mod Order
+pub mod Counts

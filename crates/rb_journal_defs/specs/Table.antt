@@ -4,12 +4,11 @@ use Rattle.std.specs.List.{flat_map}
 use Rattle.std.specs.List.Sorted.{IsStrictlyIncreasing}
 use Rattle.std.specs.Ordering.{nat_cmp}
 use Rattle.std.specs.BTreeSet.{insert_key}
-use Rattle.rb_base.specs.declared.site.SiteId.{SiteId}
 use Rattle.rb_base.specs.declared.row.Value.{Value}
 use Rattle.rb_base.specs.declared.row.Value.TheVariants.{Num, Text}
 use Rattle.rb_base.specs.declared.row.Row.{Row}
 use Rattle.rb_base.specs.declared.change.Change.{Change}
-use Rattle.rb_journal_defs.specs.Journal.{Journal, changes_of, row_at}
+use Rattle.rb_journal_defs.specs.Journal.{Journal, row_changes_of, row_at}
 
 -- the key in the values of a row: the first value, if it is a number
 abbrev pub key_in : List Value → Option ℕ
@@ -30,12 +29,12 @@ abbrev pub in_order : List ℕ → List ℕ
 in_order keys = fold (insert_key nat_cmp) [] keys
 
 -- the keys of a table that a journal names, in ascending order
-abbrev pub keys_of_table : SiteId → (table : ℕ) → Journal → List ℕ
-keys_of_table site table journal = in_order (keys_named table (flat_map (changes_of site) journal))
+abbrev pub keys_of_table : (table : ℕ) → Journal → List ℕ
+keys_of_table table journal = in_order (keys_named table (flat_map row_changes_of journal))
 
 -- the rows of a table, in ascending order of their keys
-unfoldable pub rows_of_table : SiteId → (table : ℕ) → Journal → List Row
-rows_of_table site table journal = filter_map (λ key. row_at site table key journal) (keys_of_table site table journal)
+unfoldable pub rows_of_table : (table : ℕ) → Journal → List Row
+rows_of_table table journal = filter_map (λ key. row_at table key journal) (keys_of_table table journal)
 
 -- these rows are the table in which each key has the row that `row_of` gives: one row for each key
 -- that has one, in ascending order of the keys

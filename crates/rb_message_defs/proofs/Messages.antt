@@ -10,11 +10,11 @@ use Rattle.rb_base.specs.Bucket.{bucket_number}
 use Rattle.rb_base.specs.declared.change.Change.{Change}
 use Rattle.rb_base.specs.declared.message.Message.{Message}
 use Rattle.rb_base.specs.declared.message.Message.TheVariants.{Part, Done}
-use Rattle.rb_journal_defs.specs.Journal.{Client, Closed, Journal, closed_epochs, previous_closed}
+use Rattle.rb_journal_defs.specs.Journal.{Entry, Closed, Journal, changes_of, closed_epochs, previous_closed}
 use Rattle.rb_journal_defs.specs.Body.{Shape, changes_in, in_bucket, part_of, numbers_below}
-use Rattle.rb_journal_defs.specs.Order.{InOrder}
-use Rattle.rb_journal_defs.proofs.Bodies.{changes_in_closed}
-use Rattle.rb_journal_defs.proofs.Order.{eq_or_ne, changes_here, changes_elsewhere, closed_below}
+use Rattle.rb_journal_defs.specs.Order.{InOrder, AddsTo}
+use Rattle.rb_journal_defs.proofs.Bodies.{changes_in_closed, adds_epoch}
+use Rattle.rb_journal_defs.proofs.Order.{eq_or_ne, changes_here, changes_elsewhere, closed_below, adds_stays_closed, adds_previous}
 use Rattle.rb_message_defs.specs.Message.{bucket_in, IsMessageOf, part_message, parts_sent}
 
 pub get_left : {X : Type 0} → (xs ys : List X) (k : ℕ) (x : X) → slice_get xs k ≡ Some x → slice_get (xs ++ ys) k ≡ Some x
@@ -26,29 +26,30 @@ pub get_end : {X : Type 0} → (xs : List X) (y : X) (ys : List X) → slice_get
 get_end [] y ys = refl
 get_end (x ∷ xs) y ys = get_end xs y ys
 
--- a commit appends to the parts of the open epoch and of no other epoch
-pub part_of_commit : (shape : Shape) (o t e b : ℕ) (cs : List Change) (j : Journal) → (e ≡ o) ⊎ (e ≢ o) →
-    part_of shape e b (Client o t cs ∷ j) ≡ part_of shape e b j ++ (if e == o then in_bucket shape.buckets b cs else [])
-part_of_commit shape o t e b cs j (inl q) =
-    ap (in_bucket shape.buckets b) (changes_here shape.site e (Client o t cs) j (sym q))
-    ∙ filter-append (λ change. bucket_number change.table change.key shape.buckets == b) (changes_in shape.site e j) cs
+-- a new entry appends to the parts of its epoch and of no other epoch
+pub part_of_entered : (shape : Shape) (o e b : ℕ) (x : Entry) (j : Journal) → AddsTo o x → (e ≡ o) ⊎ (e ≢ o) →
+    part_of shape e b (x ∷ j) ≡ part_of shape e b j ++ (if e == o then in_bucket shape.buckets b (changes_of shape.site x) else [])
+part_of_entered shape o e b x j adds (inl q) =
+    ap (in_bucket shape.buckets b) (changes_here shape.site e x j (adds_epoch o x adds ∙ sym q))
+    ∙ filter-append (λ change. bucket_number change.table change.key shape.buckets == b) (changes_in shape.site e j) (changes_of shape.site x)
     ∙ sym (rw (eq-eqb e o q) refl)
-part_of_commit shape o t e b cs j (inr n) =
-    ap (in_bucket shape.buckets b) (changes_elsewhere shape.site e (Client o t cs) j (λ q. n (sym q)))
+part_of_entered shape o e b x j adds (inr n) =
+    ap (in_bucket shape.buckets b) (changes_elsewhere shape.site e x j (λ q. n (sym q ∙ adds_epoch o x adds)))
     ∙ sym (rw (ne_eqb e o n) (append-nil (part_of shape e b j)))
 
 pub part_of_close : (shape : Shape) (e b c : ℕ) (j : Journal) → part_of shape e b (Closed c ∷ j) ≡ part_of shape e b j
 part_of_close shape e b c j = ap (in_bucket shape.buckets b) (changes_in_closed shape.site e c j)
 
--- a message of the journal stays one at a commit
-pub stays_at_commit : (shape : Shape) (o t : ℕ) (cs : List Change) (j : Journal) (m : Message) → InOrder o j → IsMessageOf shape j m → IsMessageOf shape (Client o t cs ∷ j) m
-stays_at_commit shape o t cs j (Part bucket epoch place change) h is =
-    let more = part_of_commit shape o t epoch.0 bucket cs j (eq_or_ne epoch.0 o) in
-    subst (λ (part : List Change). slice_get part place ≡ Some change) (sym more) (get_left (part_of shape epoch.0 bucket j) (if epoch.0 == o then in_bucket shape.buckets bucket cs else []) place change is)
-stays_at_commit shape o t cs j (Done bucket epoch prev count) h is =
+-- a message of the journal stays one after a new entry
+pub stays_when_entered : (shape : Shape) (o : ℕ) (x : Entry) (j : Journal) (m : Message) → AddsTo o x → InOrder o j → IsMessageOf shape j m → IsMessageOf shape (x ∷ j) m
+stays_when_entered shape o x j (Part bucket epoch place change) adds h is =
+    let more = part_of_entered shape o epoch.0 bucket x j adds (eq_or_ne epoch.0 o) in
+    subst (λ (part : List Change). slice_get part place ≡ Some change) (sym more) (get_left (part_of shape epoch.0 bucket j) (if epoch.0 == o then in_bucket shape.buckets bucket (changes_of shape.site x) else []) place change is)
+stays_when_entered shape o x j (Done bucket epoch prev count) adds h is =
     let below : epoch.0 < o = closed_below o epoch.0 j h is.0 in
-    let same : part_of shape epoch.0 bucket (Client o t cs ∷ j) ≡ part_of shape epoch.0 bucket j = ap (in_bucket shape.buckets bucket) (changes_elsewhere shape.site epoch.0 (Client o t cs) j (omega arith)) in
-    (is.0, is.1, is.2 ∙ ap length (sym same))
+    let own = adds_epoch o x adds in
+    let same : part_of shape epoch.0 bucket (x ∷ j) ≡ part_of shape epoch.0 bucket j = ap (in_bucket shape.buckets bucket) (changes_elsewhere shape.site epoch.0 x j (omega arith)) in
+    (adds_stays_closed o epoch.0 x j adds is.0, is.1 ∙ sym (adds_previous o epoch.0 x j adds), is.2 ∙ ap length (sym same))
 
 -- a close of an epoch that is not below `e` leaves the epoch before `e` unchanged
 pub previous_stays : (e o : ℕ) (j : Journal) → e ≤ o → previous_closed e (Closed o ∷ j) ≡ previous_closed e j
@@ -113,20 +114,20 @@ IsSentOf shape journal m = (bucket_in m < shape.buckets) × IsMessageOf shape jo
 pub bucket_within : (table key buckets : ℕ) → 0 < buckets → bucket_number table key buckets < buckets
 bucket_within table key buckets some = mod-lt (key % buckets + table) some
 
--- the messages that a commit sends are messages of the journal after it
-parts_from : (shape : Shape) (o t : ℕ) (earlier cs all : List Change) (j : Journal) → 0 < shape.buckets → changes_in shape.site o j ++ all ≡ earlier ++ cs → AllByRecursion (IsSentOf shape (Client o t all ∷ j)) (parts_sent shape.buckets o earlier cs)
+-- the messages that a new entry sends are messages of the journal with it
+parts_from : (shape : Shape) (o : ℕ) (earlier cs : List Change) (x : Entry) (j : Journal) → AddsTo o x → 0 < shape.buckets → changes_in shape.site o j ++ changes_of shape.site x ≡ earlier ++ cs → AllByRecursion (IsSentOf shape (x ∷ j)) (parts_sent shape.buckets o earlier cs)
 unfolding parts_sent
-parts_from shape o t earlier [] all j some same = tt
-parts_from shape o t earlier (c ∷ cs) all j some same =
+parts_from shape o earlier [] x j adds some same = tt
+parts_from shape o earlier (c ∷ cs) x j adds some same =
     let b = bucket_number c.table c.key shape.buckets in
-    let whole : changes_in shape.site o (Client o t all ∷ j) ≡ earlier ++ c ∷ cs = changes_here shape.site o (Client o t all) j refl ∙ same in
-    let is : slice_get (part_of shape o b (Client o t all ∷ j)) (length (in_bucket shape.buckets b earlier)) ≡ Some c =
+    let whole : changes_in shape.site o (x ∷ j) ≡ earlier ++ c ∷ cs = changes_here shape.site o x j (adds_epoch o x adds) ∙ same in
+    let is : slice_get (part_of shape o b (x ∷ j)) (length (in_bucket shape.buckets b earlier)) ≡ Some c =
     ap (λ (xs : List Change). slice_get (in_bucket shape.buckets b xs) (length (in_bucket shape.buckets b earlier))) whole ∙ place_in_part shape earlier cs c in
-    let rest = parts_from shape o t (earlier ++ c ∷ []) cs all j some (same ∙ sym (append_assoc earlier (c ∷ []) cs)) in
-    subst (AllByRecursion (IsSentOf shape (Client o t all ∷ j))) (sym (parts_sent_first shape.buckets o earlier cs c)) ((bucket_within c.table c.key shape.buckets some, is), rest)
+    let rest = parts_from shape o (earlier ++ c ∷ []) cs x j adds some (same ∙ sym (append_assoc earlier (c ∷ []) cs)) in
+    subst (AllByRecursion (IsSentOf shape (x ∷ j))) (sym (parts_sent_first shape.buckets o earlier cs c)) ((bucket_within c.table c.key shape.buckets some, is), rest)
 
-pub parts_are_messages : (shape : Shape) (o t : ℕ) (cs : List Change) (j : Journal) → 0 < shape.buckets → AllByRecursion (IsSentOf shape (Client o t cs ∷ j)) (parts_sent shape.buckets o (changes_in shape.site o j) cs)
-parts_are_messages shape o t cs j some = parts_from shape o t (changes_in shape.site o j) cs cs j some refl
+pub parts_are_messages : (shape : Shape) (o : ℕ) (x : Entry) (j : Journal) → AddsTo o x → 0 < shape.buckets → AllByRecursion (IsSentOf shape (x ∷ j)) (parts_sent shape.buckets o (changes_in shape.site o j) (changes_of shape.site x))
+parts_are_messages shape o x j adds some = parts_from shape o (changes_in shape.site o j) (changes_of shape.site x) x j adds some refl
 
 -- a fact about every number below `n`
 pub all_below : {P : ℕ → Type 0} → (n : ℕ) → ((k : ℕ) → k < n → P k) → AllByRecursion P (numbers_below n)

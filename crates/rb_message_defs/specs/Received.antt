@@ -56,6 +56,15 @@ answer_to fed message =
     if nat_le (epoch_in message) fed.last then answers.Old
     else (if is_known fed.received message then answers.Known else answers.Kept)
 
+-- the event buffer's history with one more message
+abbrev pub with_received : Message → Fed → Fed
+with_received message fed = record fed { received = message ∷ fed.received }
+
+-- the answer to each of these messages, received one after the other
+abbrev pub answers_to : Fed → List Message → List Received
+answers_to fed [] = []
+answers_to fed (message ∷ later) = answer_to fed message ∷ answers_to (with_received message fed) later
+
 -- the first message that is missing of a bucket in an epoch, given its number of changes: the Done
 -- if the number is unknown, otherwise the lowest place without a change
 abbrev pub missing_below : List Message → (epoch bucket : ℕ) → (count : Option ℕ) → Option Missing

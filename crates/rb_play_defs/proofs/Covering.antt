@@ -1,6 +1,6 @@
 -- If no group is lost, every bucket's owner covers: it is up, and has buffered everything that is
 -- not acknowledged.
-use Rattle.std.proofs.Common.{◌≡◌, ℕ, zero, suc, ◌+◌, ◌*◌, ◌<◌, ◌≤◌, Bool, true, false, cond, List, [], ◌∷◌, ◌++◌, length, map, filter, take, fold, refl, sym, ap, subst, ◌∙◌, inl, inr, arith}
+use Rattle.std.proofs.Common.{◌≡◌, ℕ, zero, suc, ◌+◌, ◌*◌, ◌<◌, ◌≤◌, Bool, true, false, cond, List, [], ◌∷◌, ◌++◌, length, map, filter, take, refl, sym, ap, subst, ◌∙◌, inl, inr, arith}
 use Rattle.std.specs.Prelude.{◌⊎◌, ◌==◌, ◌&&◌, nat_le, nat_lt, not, if◌then◌else◌, Option, Some, None, unwrap_or}
 use Rattle.std.specs.List.{AllByRecursion, enumerate_from, find, flat_map, last_or, slice_get}
 use Rattle.std.specs.Option.{option_map, option_map_or, option_or}
@@ -11,30 +11,34 @@ use Rattle.rb_base.specs.declared.body.EpochBody.{EpochBody}
 use Rattle.rb_base.specs.declared.message.Sent.{Sent}
 use Rattle.rb_base.specs.declared.outcome.Outcome.TheVariants as outcomes
 use Rattle.rb_base.specs.declared.script.ClientOp.{ClientOp}
-use Rattle.rb_base.specs.declared.script.Event.{Event}
-use Rattle.rb_base.specs.declared.script.Event.TheVariants as events
+use Rattle.rb_base.specs.declared.site.SiteId.{SiteId}
+use Rattle.rb_base.specs.declared.site.SiteId.TheVariants.{A, B}
 use Rattle.rb_base.specs.declared.script.Setup.{Setup}
 use Rattle.rb_text_defs.specs.declared.script.LinedEvent.{LinedEvent}
 use Rattle.rb_journal_defs.specs.Transaction.{Refusal, refusal_of}
 use Rattle.rb_message_defs.specs.Received.{answer_to}
-use Rattle.rb_journal_defs.specs.Journal.{Closed, Journal, closed_epochs}
+use Rattle.rb_journal_defs.specs.Journal.{Entry, Closed, Journal, closed_epochs}
 use Rattle.rb_journal_defs.specs.Body.{Shape, body_of, completed_bodies, has_something_to_log, numbers_below}
 use Rattle.rb_journal_defs.specs.Clock.{first_epoch, epoch_after}
-use Rattle.rb_journal_defs.proofs.Bodies.{if_logged, completed_client, completed_closed}
-use Rattle.rb_journal_defs.specs.Order.{InOrder, IsClosed}
+use Rattle.rb_journal_defs.proofs.Bodies.{if_logged, adds_closes_none, completed_entered, completed_closed}
+use Rattle.rb_journal_defs.specs.Order.{InOrder, IsClosed, AddsTo}
 use Rattle.rb_journal_defs.proofs.Order.{Rises, closed_rise, opened_above, upto, Among, closed_among}
 use Rattle.rb_message_defs.specs.Message.{home_node}
 use Rattle.rb_message_defs.proofs.Messages.{all_joined}
 use Rattle.rb_message_defs.proofs.Numbers.{number_at, numbered_get, found_in}
 use Rattle.rb_message_defs.specs.Nodes.{Node, node_from, down, Nodes, nodes_at_first, node_at, owner_in, needed_epoch, covers, others_after, successor_of, with_node, with_failure, with_restart, with_owner, returns, with_returns, numbers_in, group_of, buffered, messages_of, part_messages, unacknowledged}
-use Rattle.rb_play_defs.specs.Step.{Progress, beginning, acknowledged_epoch, needed_of, last_epoch, written_bodies, worth_logging, unchanged, refused, rows_of, tx_changes, committed, commit_outcome, tx_step, only_closed, closed, close_step, fed_by, delivered_message, answer_outcome, deliver_step, undelivered, after_delivery, all_delivered, delivery_of_all, deliver_all_step, takeover_step, loss_step, fail_step, restart_step, resend_step, injector_step, unless_lost, StepResult, takeable, with_taken, injected, injection_of, inject_step, site_step}
-use Rattle.rb_play_defs.specs.Play.{shape_of, log_step, event_step, Played, played_on, not_played, play_of}
-use Rattle.rb_play_defs.specs.Sound.{IsSound, CanSendAgain}
-use Rattle.rb_play_defs.proofs.Sounds.{closed_all_below, sound_beginning}
-use Rattle.rb_play_defs.proofs.Restarts.{acknowledged_is}
-use Rattle.rb_play_defs.proofs.Takes.{prefix_of, sound_taken, takeable_rest, injected_more, injected_end, written_more}
+use Rattle.rb_play_defs.specs.Step.{Progress, beginning, last_written, needed_of, last_epoch, written_bodies, worth_logging, unchanged, refused, rows_of, entered, tx_entry, committed, commit_outcome, tx_step, only_closed, closed, close_step, fed_by, delivered_message, answer_outcome, deliver_step, undelivered, after_delivery, all_delivered, delivery_of_all, deliver_all_step, takeover_step, loss_step, fail_step, restart_step, resend_step, injector_step, unless_lost, StepResult, takeable, with_taken, with_all_taken, with_acknowledged, injected, injection_of, inject_step, site_step}
+use Rattle.rb_play_defs.specs.Play.{setup_at, shape_of, progress_at, beginnings, not_played, play_of}
+use Rattle.rb_play_defs.specs.declared.event.SiteEvent.{SiteEvent}
+use Rattle.rb_play_defs.specs.declared.event.SiteEvent.TheVariants as happenings
+use Rattle.rb_play_defs.proofs.Along.{along_site}
+use Rattle.rb_play_defs.specs.Sound.{IsSound, AllCovered, IsCovered, CanSendAgain}
+use Rattle.rb_play_defs.proofs.Sounds.{closed_all_below}
+use Rattle.rb_play_defs.proofs.Restarts.{last_written_is}
+use Rattle.rb_play_defs.proofs.Takes.{prefix_of, sound_taken, sound_all_taken, takeable_rest, taken_more, taken_end, written_more}
 use Rattle.rb_play_defs.proofs.Fits.{all_filtered}
-use Rattle.rb_play_defs.proofs.Grows.{written_within, goes, goes_delivery, goes_on}
+use Rattle.rb_play_defs.specs.Play.{HasBuckets}
+use Rattle.rb_play_defs.proofs.Grows.{written_within, goes_site, sound_at_first}
 
 -- a fact about 0 and each number of a list holds for the last number, or for 0
 last_in : (P : ℕ → Type 0) (xs : List ℕ) → P 0 → AllByRecursion P xs → P (unwrap_or (last_or None xs) 0)
@@ -45,9 +49,10 @@ last_in P (x ∷ xs) none all = from x xs all.0 all.1
     from x [] here all = here
     from x (y ∷ xs) here all = from y xs all.0 all.1
 
-pub acknowledged_below : (shape : Shape) (run : Progress) → IsSound shape run → acknowledged_epoch shape run < run.opened
-acknowledged_below shape run sound =
-    subst (λ (e : ℕ). e < run.opened) (sym (acknowledged_is shape run sound))
+-- the last written epoch is below the open one
+pub written_below : (shape : Shape) (run : Progress) → IsSound shape run → last_written shape run < run.opened
+written_below shape run sound =
+    subst (λ (e : ℕ). e < run.opened) (sym (last_written_is shape run sound))
     (last_in (λ e. e < run.opened) (worth_logging shape run.journal (upto run.last run.journal)) (opened_above run.opened run.journal sound.order)
     (all_filtered (λ e. e < run.opened) _ (upto run.last run.journal) (all_filtered (λ e. e < run.opened) _ (closed_epochs run.journal) (closed_all_below run.opened run.journal sound.order))))
 
@@ -123,10 +128,6 @@ other_node number other node site differs =
     go : (found : Option Node) → unwrap_or (option_map (λ x. if 0 + other == number then node else x) found) down ≡ unwrap_or found down
     go None = refl
     go (Some x) = ap (λ (b : Bool). if b then node else x) (ne_eqb (0 + other) number (λ same. differs (let s = same in omega arith)))
-
--- the owner of each bucket covers
-abbrev pub AllCovered : (buckets needed : ℕ) → Nodes → Type 0
-AllCovered buckets needed site = (bucket : ℕ) → bucket < buckets → covers needed (node_at site (owner_in site bucket)) ≡ true
 
 -- every owner still covers when the needed epoch rises
 pub covered_more : (buckets a b : ℕ) (site : Nodes) → a ≤ b → AllCovered buckets a site → AllCovered buckets b site
@@ -209,14 +210,10 @@ covered_returns buckets needed site count all bucket within =
     ∙ ap (option_map (λ owner. if returns site needed bucket then home_node bucket else owner)) there.1) in
     ap (λ (k : ℕ). covers needed (node_at site k)) now ∙ returned needed bucket there.0 site (ap (λ (k : ℕ). covers needed (node_at site k)) (sym before) ∙ all bucket within)
 
--- if no group is lost, every owner covers
-abbrev pub IsCovered : Shape → Progress → Type 0
-IsCovered shape run = run.lost ≡ None → AllCovered shape.buckets (needed_of shape run) run.nodes
-
--- a commit and a close leave the logged bodies unchanged
-written_at_commit : (shape : Shape) (operations : List ClientOp) (run : Progress) → IsSound shape run → written_bodies shape (committed shape operations run) ≡ written_bodies shape run
-written_at_commit shape operations run sound =
-    ap (take run.written) (completed_client shape run.opened (run.drawn + 1) (tx_changes shape operations run) run.journal (closed_all_below run.opened run.journal sound.order))
+-- a new entry and a close leave the logged bodies unchanged
+written_when_entered : (shape : Shape) (entry : Entry) (run : Progress) → AddsTo run.opened entry → IsSound shape run → written_bodies shape (entered shape entry run) ≡ written_bodies shape run
+written_when_entered shape entry run adds sound =
+    ap (take run.written) (completed_entered shape run.opened entry run.journal adds (closed_all_below run.opened run.journal sound.order))
 
 written_at_close : (shape : Shape) (gci : Bool) (run : Progress) → IsSound shape run → written_bodies shape (closed shape gci run) ≡ written_bodies shape run
 written_at_close shape gci run sound =
@@ -225,34 +222,47 @@ written_at_close shape gci run sound =
 
 -- a new site
 pub covered_beginning : (shape : Shape) (groups replicas : ℕ) → shape.buckets ≡ groups * replicas → IsCovered shape (beginning groups replicas)
-covered_beginning shape groups replicas count none bucket within =
-    let below : bucket < groups * replicas = omega (arith, count) in
-    let there = number_at (groups * replicas) bucket below in
-    let owner : owner_in (nodes_at_first groups replicas) bucket ≡ bucket = ap (λ (o : Option ℕ). unwrap_or o (home_node bucket)) there in
-    ap (λ (k : ℕ). covers first_epoch (node_at (nodes_at_first groups replicas) k)) owner
-    ∙ ap (λ (o : Option Node). covers first_epoch (unwrap_or o down)) (node_there (numbers_below (groups * replicas)) bucket bucket there)
+covered_beginning shape groups replicas count = record { told = omega arith; owners = all }
   where
     node_there : (xs : List ℕ) (k x : ℕ) → slice_get xs k ≡ Some x → slice_get (map (λ number. node_from first_epoch) xs) k ≡ Some (node_from first_epoch)
     node_there [] k x is = absurd cc
     node_there (y ∷ xs) zero x is = refl
     node_there (y ∷ xs) (suc k) x is = node_there xs k x is
 
--- a transaction
-covered_commit : (shape : Shape) (operations : List ClientOp) (run : Progress) → IsSound shape run → IsCovered shape run → IsCovered shape (committed shape operations run)
-covered_commit shape operations run sound covered none =
-    subst (λ (acknowledged : ℕ). AllCovered shape.buckets (needed_epoch acknowledged run.opened run.journal) run.nodes) (sym (ap last_epoch (written_at_commit shape operations run sound))) (covered none)
+    all : (beginning groups replicas).lost ≡ None → AllCovered shape.buckets first_epoch (nodes_at_first groups replicas)
+    all none bucket within =
+        let below : bucket < groups * replicas = omega (arith, count) in
+        let there = number_at (groups * replicas) bucket below in
+        let owner : owner_in (nodes_at_first groups replicas) bucket ≡ bucket = ap (λ (o : Option ℕ). unwrap_or o (home_node bucket)) there in
+        ap (λ (k : ℕ). covers first_epoch (node_at (nodes_at_first groups replicas) k)) owner
+        ∙ ap (λ (o : Option Node). covers first_epoch (unwrap_or o down)) (node_there (numbers_below (groups * replicas)) bucket bucket there)
+
+-- a new entry of the open epoch
+pub covered_entered : (shape : Shape) (entry : Entry) (run : Progress) → AddsTo run.opened entry → IsSound shape run → IsCovered shape run → IsCovered shape (entered shape entry run)
+covered_entered shape entry run adds sound covered = record {
+  told = (let same = ap last_epoch (written_when_entered shape entry run adds sound) in let told = covered.told in omega arith);
+  owners = λ none. subst (λ (closed : List ℕ). AllCovered shape.buckets (unwrap_or (find (nat_lt run.acknowledged) closed) run.opened) run.nodes) (sym (adds_closes_none run.opened entry run.journal adds)) (covered.owners none);
+}
+
+pub covered_commit : (shape : Shape) (operations : List ClientOp) (run : Progress) → IsSound shape run → IsCovered shape run → IsCovered shape (committed shape operations run)
+covered_commit shape operations run sound covered =
+    let entered = covered_entered shape (tx_entry shape operations run) run refl sound covered in
+    record { told = entered.told; owners = entered.owners }
+
+-- the acknowledged epoch is below the open one
+pub acknowledged_below : (shape : Shape) (run : Progress) → IsSound shape run → IsCovered shape run → run.acknowledged < run.opened
+acknowledged_below shape run sound covered = let below = written_below shape run sound in let told = covered.told in omega arith
 
 -- a close
-covered_close : (shape : Shape) (gci : Bool) (run : Progress) → IsSound shape run → IsCovered shape run → IsCovered shape (closed shape gci run)
-covered_close shape gci run sound covered none =
+pub covered_close : (shape : Shape) (gci : Bool) (run : Progress) → IsSound shape run → IsCovered shape run → IsCovered shape (closed shape gci run)
+covered_close shape gci run sound covered =
     let after = only_closed gci run in
-    let same : acknowledged_epoch shape (closed shape gci run) ≡ acknowledged_epoch shape run = ap last_epoch (written_at_close shape gci run sound) in
-    let needed : needed_of shape (closed shape gci run) ≡ needed_of shape run =
-    ap (λ (acknowledged : ℕ). needed_epoch acknowledged (epoch_after gci run.opened) (Closed run.opened ∷ run.journal)) same
-    ∙ needed_at_close (acknowledged_epoch shape run) run.opened (epoch_after gci run.opened) run.journal (acknowledged_below shape run sound) in
-    subst (λ (n : ℕ). AllCovered shape.buckets n (with_returns (needed_of shape after) run.nodes)) (sym needed)
-    (subst (λ (n : ℕ). AllCovered shape.buckets (needed_of shape run) (with_returns n run.nodes)) (sym needed)
-    (covered_returns shape.buckets (needed_of shape run) run.nodes sound.nodes.owners (covered none)))
+    let needed : needed_of (closed shape gci run) ≡ needed_of run = needed_at_close run.acknowledged run.opened (epoch_after gci run.opened) run.journal (acknowledged_below shape run sound covered) in record {
+      told = (let same = ap last_epoch (written_at_close shape gci run sound) in let told = covered.told in omega arith);
+      owners = λ none. subst (λ (n : ℕ). AllCovered shape.buckets n (with_returns (needed_of after) run.nodes)) (sym needed)
+          (subst (λ (n : ℕ). AllCovered shape.buckets (needed_of run) (with_returns n run.nodes)) (sym needed)
+          (covered_returns shape.buckets (needed_of run) run.nodes sound.nodes.owners (covered.owners none)));
+    }
 
 -- an epoch that is taken is above the last taken one
 pub taken_above : (shape : Shape) (run : Progress) (e : ℕ) (rest : List ℕ) → takeable shape run ≡ e ∷ rest → run.last < e
@@ -260,9 +270,9 @@ taken_above shape run e rest same =
     let front = prefix_of shape run e rest same in
     ltb-true run.last e (subst (AllByRecursion (λ x. nat_lt run.last x ≡ true)) front.1 (passing (λ x. nat_lt run.last x ≡ true) (nat_lt run.last) (closed_epochs run.journal) (λ x passes. passes))).0
 
-pub acknowledged_within : (shape : Shape) (run : Progress) → IsSound shape run → acknowledged_epoch shape run ≤ run.last
-acknowledged_within shape run sound =
-    subst (λ (e : ℕ). e ≤ run.last) (sym (acknowledged_is shape run sound))
+pub written_within_last : (shape : Shape) (run : Progress) → IsSound shape run → last_written shape run ≤ run.last
+written_within_last shape run sound =
+    subst (λ (e : ℕ). e ≤ run.last) (sym (last_written_is shape run sound))
     (last_in (λ e. e ≤ run.last) (worth_logging shape run.journal (upto run.last run.journal)) (omega arith)
     (all_filtered (λ e. e ≤ run.last) _ (upto run.last run.journal) (passing (λ e. e ≤ run.last) (λ e. nat_le e run.last) (closed_epochs run.journal) (λ e passes. leb-true e run.last passes))))
 
@@ -278,38 +288,51 @@ body_epoch shape e j = refl
 last_more : (bodies : List EpochBody) (body : EpochBody) → last_epoch (bodies ++ body ∷ []) ≡ body.epoch.0
 last_more bodies body = ap (λ (es : List ℕ). unwrap_or (last_or None es) 0) (map-append (λ (b : EpochBody). b.epoch.0) bodies (body ∷ [])) ∙ ap (λ (o : Option ℕ). unwrap_or o 0) (last_end None (map (λ (b : EpochBody). b.epoch.0) bodies) body.epoch.0)
 
--- taking an epoch leaves the acknowledged epoch unchanged or raises it
-pub acknowledged_rises : (shape : Shape) (run : Progress) (e : ℕ) (rest : List ℕ) → IsSound shape run → takeable shape run ≡ e ∷ rest → acknowledged_epoch shape run ≤ acknowledged_epoch shape (with_taken shape run e)
-acknowledged_rises shape run e rest sound same =
-    subst (λ (bodies : List EpochBody). acknowledged_epoch shape run ≤ last_epoch bodies) (sym (written_more shape run e rest sound same)) (rises (has_something_to_log (body_of shape e run.journal)))
+-- taking an epoch leaves the last written epoch unchanged or raises it
+pub written_rises : (shape : Shape) (run : Progress) (e : ℕ) (rest : List ℕ) → IsSound shape run → takeable shape run ≡ e ∷ rest → last_written shape run ≤ last_written shape (with_taken shape run e)
+written_rises shape run e rest sound same =
+    subst (λ (bodies : List EpochBody). last_written shape run ≤ last_epoch bodies) (sym (written_more shape run e rest sound same)) (rises (has_something_to_log (body_of shape e run.journal)))
   where
-    rises : (b : Bool) → acknowledged_epoch shape run ≤ last_epoch (written_bodies shape run ++ cond b (body_of shape e run.journal ∷ []) [])
+    rises : (b : Bool) → last_written shape run ≤ last_epoch (written_bodies shape run ++ cond b (body_of shape e run.journal ∷ []) [])
     rises true =
         let last : last_epoch (written_bodies shape run ++ body_of shape e run.journal ∷ []) ≡ e = last_more (written_bodies shape run) (body_of shape e run.journal) ∙ body_epoch shape e run.journal in
-        omega (arith, acknowledged_within shape run sound, taken_above shape run e rest same)
-    rises false = subst (λ (bodies : List EpochBody). acknowledged_epoch shape run ≤ last_epoch bodies) (sym (append-nil (written_bodies shape run))) (omega arith)
+        omega (arith, written_within_last shape run sound, taken_above shape run e rest same)
+    rises false = subst (λ (bodies : List EpochBody). last_written shape run ≤ last_epoch bodies) (sym (append-nil (written_bodies shape run))) (omega arith)
 
 -- a taken epoch
 pub covered_taken : (shape : Shape) (run : Progress) (e : ℕ) (rest : List ℕ) → IsSound shape run → takeable shape run ≡ e ∷ rest → IsCovered shape run → IsCovered shape (with_taken shape run e)
-covered_taken shape run e rest sound same covered none =
-    covered_more shape.buckets (needed_of shape run) (needed_of shape (with_taken shape run e)) run.nodes
-    (needed_rises (acknowledged_epoch shape run) (acknowledged_epoch shape (with_taken shape run e)) run.opened run.journal (acknowledged_rises shape run e rest sound same) sound.order) (covered none)
+covered_taken shape run e rest sound same covered = record {
+  told = (let told = covered.told in let rises = written_rises shape run e rest sound same in omega arith);
+  owners = covered.owners;
+}
+
+pub covered_all_taken : (shape : Shape) (run : Progress) (es : List ℕ) → IsSound shape run → takeable shape run ≡ es → IsCovered shape run → IsCovered shape (with_all_taken shape run)
+covered_all_taken shape run [] sound same covered = subst (IsCovered shape) (sym (taken_end shape run same)) covered
+covered_all_taken shape run (e ∷ rest) sound same covered =
+    subst (IsCovered shape) (sym (taken_more shape run e rest sound same))
+    (covered_all_taken shape (with_taken shape run e) rest (sound_taken shape run e rest sound same) (takeable_rest shape run e rest sound same) (covered_taken shape run e rest sound same covered))
+
+-- the nodes are told the last written epoch
+pub covered_acknowledged : (shape : Shape) (run : Progress) → IsSound shape run → IsCovered shape run → IsCovered shape (with_acknowledged shape run)
+covered_acknowledged shape run sound covered = record {
+  told = omega arith;
+  owners = λ none. covered_more shape.buckets (needed_of run) (needed_of (with_acknowledged shape run)) run.nodes
+      (needed_rises run.acknowledged (last_written shape run) run.opened run.journal covered.told sound.order) (covered.owners none);
+}
 
 -- an `inject` event
-covered_injected : (shape : Shape) (run : Progress) (es : List ℕ) → IsSound shape run → takeable shape run ≡ es → IsCovered shape run → IsCovered shape (injected shape run)
-covered_injected shape run [] sound same covered = subst (IsCovered shape) (sym (injected_end shape run same)) covered
-covered_injected shape run (e ∷ rest) sound same covered =
-    subst (IsCovered shape) (sym (injected_more shape run e rest sound same))
-    (covered_injected shape (with_taken shape run e) rest (sound_taken shape run e rest sound same) (takeable_rest shape run e rest sound same) (covered_taken shape run e rest sound same covered))
+pub covered_injected : (shape : Shape) (run : Progress) → IsSound shape run → IsCovered shape run → IsCovered shape (injected shape run)
+covered_injected shape run sound covered =
+    covered_acknowledged shape (with_all_taken shape run) (sound_all_taken shape run (takeable shape run) sound refl) (covered_all_taken shape run (takeable shape run) sound refl covered)
 
 -- a delivery
-covered_delivered : (shape : Shape) (place : ℕ) (run : Progress) → IsCovered shape run → IsCovered shape (deliver_step shape place run).run
+pub covered_delivered : (shape : Shape) (place : ℕ) (run : Progress) → IsCovered shape run → IsCovered shape (deliver_step shape place run).run
 unfolding deliver_step
 covered_delivered shape place run covered = go (slice_get run.sent place)
   where
     go : (x : Option Sent) → IsCovered shape (option_map_or (λ sent. record { run = delivered_message place sent.message run; outcome = answer_outcome (answer_to (fed_by shape run) sent.message) }) x (unchanged run (outcomes.NoMessage place (length run.sent)))).run
     go None = covered
-    go (Some sent) = covered
+    go (Some sent) = record { told = covered.told; owners = covered.owners }
 
 covered_all : (shape : Shape) (places : List ℕ) (run : Progress) → IsCovered shape run → IsCovered shape (all_delivered shape places run)
 covered_all shape [] run covered = covered
@@ -321,47 +344,42 @@ covered_delivery shape run covered = covered_all shape (undelivered run) run cov
 
 covered_injection : (shape : Shape) (run : Progress) → IsSound shape run → IsCovered shape run → IsCovered shape (injection_of shape run).run
 unfolding injection_of
-covered_injection shape run sound covered = covered_injected shape run (takeable shape run) sound refl covered
-
-covered_log : (shape : Shape) (run : Progress) → IsSound shape run → IsCovered shape run → IsCovered shape (log_step shape run).run
-unfolding log_step
-covered_log shape run sound covered =
-    covered_injection shape (delivery_of_all shape run).run (goes_delivery shape run sound).sound (covered_delivery shape run covered)
+covered_injection shape run sound covered = covered_injected shape run sound covered
 
 -- a transaction, refused or accepted
 covered_tx : (shape : Shape) (operations : List ClientOp) (run : Progress) → IsSound shape run → IsCovered shape run → IsCovered shape (tx_step shape operations run).run
 unfolding tx_step
-covered_tx shape operations run sound covered = go (refusal_of (rows_of shape run) operations)
+covered_tx shape operations run sound covered = go (refusal_of (rows_of run) operations)
   where
     go : (x : Option Refusal) → IsCovered shape (option_map_or (λ refusal. unchanged run (refused refusal)) x (record { run = committed shape operations run; outcome = commit_outcome (committed shape operations run) })).run
     go None = covered_commit shape operations run sound covered
     go (Some refusal) = covered
 
 -- the failure or the restart of a node, and a resend
-covered_fail : (shape : Shape) (node : ℕ) (run : Progress) → IsSound shape run → IsCovered shape run → IsCovered shape (fail_step shape node run).run
+pub covered_fail : (shape : Shape) (node : ℕ) (run : Progress) → IsSound shape run → IsCovered shape run → IsCovered shape (fail_step shape node run).run
 unfolding fail_step
-covered_fail shape node run sound covered = go (node_at run.nodes node).up (successor_of run.nodes (needed_of shape run) node) refl
+covered_fail shape node run sound covered = go (node_at run.nodes node).up (successor_of run.nodes (needed_of run) node) refl
   where
-    go : (up : Bool) (successor : Option ℕ) → successor_of run.nodes (needed_of shape run) node ≡ successor → IsCovered shape (if up then option_map_or (λ other. takeover_step shape node other run) successor (loss_step shape node run) else unchanged run (outcomes.NodeDown node)).run
-    go true None is = λ lost. let no : Some (group_of run.nodes node, needed_of shape run) ≡ None = lost in absurd cc
-    go true (Some other) is = λ none. covered_takeover shape.buckets (needed_of shape run) node other (length run.sent) run.nodes sound.nodes.owners is (covered none)
+    go : (up : Bool) (successor : Option ℕ) → successor_of run.nodes (needed_of run) node ≡ successor → IsCovered shape (if up then option_map_or (λ other. takeover_step shape node other run) successor (loss_step shape node run) else unchanged run (outcomes.NodeDown node)).run
+    go true None is = record { told = covered.told; owners = λ lost. let no : Some (group_of run.nodes node, needed_of run) ≡ None = lost in absurd cc }
+    go true (Some other) is = record { told = covered.told; owners = λ none. covered_takeover shape.buckets (needed_of run) node other (length run.sent) run.nodes sound.nodes.owners is (covered.owners none) }
     go false successor is = covered
 
-covered_restarted : (shape : Shape) (node : ℕ) (run : Progress) → IsCovered shape run → IsCovered shape (restart_step node run).run
+pub covered_restarted : (shape : Shape) (node : ℕ) (run : Progress) → IsCovered shape run → IsCovered shape (restart_step node run).run
 unfolding restart_step
 covered_restarted shape node run covered = go (node_at run.nodes node).up refl
   where
     go : (up : Bool) → (node_at run.nodes node).up ≡ up → IsCovered shape (if up then unchanged run (outcomes.NodeUp node) else record { run = record run { nodes = with_restart node run.opened run.nodes }; outcome = outcomes.Restarted (record { 0 = run.opened + 1 }) }).run
     go true is = covered
-    go false is = λ none. covered_restart shape.buckets (needed_of shape run) node run.opened run.nodes is (covered none)
+    go false is = record { told = covered.told; owners = λ none. covered_restart shape.buckets (needed_of run) node run.opened run.nodes is (covered.owners none) }
 
-covered_resend : (shape : Shape) (run : Progress) → IsCovered shape run → IsCovered shape (resend_step shape run).run
+pub covered_resend : (shape : Shape) (run : Progress) → IsCovered shape run → IsCovered shape (resend_step shape run).run
 unfolding resend_step
-covered_resend shape run covered = covered
+covered_resend shape run covered = record { told = covered.told; owners = covered.owners }
 
-covered_injector : (shape : Shape) (run : Progress) → IsCovered shape run → IsCovered shape (injector_step shape run).run
+pub covered_injector : (shape : Shape) (run : Progress) → IsCovered shape run → IsCovered shape (injector_step shape run).run
 unfolding injector_step
-covered_injector shape run covered = covered
+covered_injector shape run covered = record { told = covered.told; owners = covered.owners }
 
 covered_unless : (shape : Shape) (run : Progress) (step : StepResult) → IsCovered shape run → IsCovered shape step.run → IsCovered shape (unless_lost run step).run
 covered_unless shape run step covered next = go run.lost
@@ -370,25 +388,34 @@ covered_unless shape run step covered next = go run.lost
     go None = next
     go (Some loss) = covered
 
--- an event of a script
-covered_event : (shape : Shape) (run : Progress) (event : Event) → IsSound shape run → IsCovered shape run → IsCovered shape (event_step shape run event).run
-unfolding event_step site_step close_step deliver_all_step inject_step
-covered_event shape run (events.Tx site operations) sound covered = covered_unless shape run (tx_step shape operations run) covered (covered_tx shape operations run sound covered)
-covered_event shape run (events.Close site gci) sound covered = covered_unless shape run (close_step shape gci run) covered (covered_close shape gci run sound covered)
-covered_event shape run (events.Deliver site place) sound covered = covered_delivered shape place run covered
-covered_event shape run (events.DeliverAll site) sound covered = covered_delivery shape run covered
-covered_event shape run (events.Inject site) sound covered = covered_injection shape run sound covered
-covered_event shape run (events.Log site) sound covered = covered_log shape run sound covered
-covered_event shape run (events.Fail site node) sound covered = covered_unless shape run (fail_step shape node run) covered (covered_fail shape node run sound covered)
-covered_event shape run (events.Restart site node) sound covered = covered_unless shape run (restart_step node run) covered (covered_restarted shape node run covered)
-covered_event shape run (events.Resend site) sound covered = covered_unless shape run (resend_step shape run) covered (covered_resend shape run covered)
-covered_event shape run (events.Injector site) sound covered = covered_injector shape run covered
-covered_event shape run event sound covered = covered
+-- an event of a site
+pub covered_site : (shape : Shape) (run : Progress) (event : SiteEvent) → IsSound shape run → IsCovered shape run → IsCovered shape (site_step shape run event).run
+unfolding site_step close_step deliver_all_step inject_step
+covered_site shape run (happenings.Tx operations) sound covered = covered_unless shape run (tx_step shape operations run) covered (covered_tx shape operations run sound covered)
+covered_site shape run (happenings.Close gci) sound covered = covered_unless shape run (close_step shape gci run) covered (covered_close shape gci run sound covered)
+covered_site shape run (happenings.Deliver place) sound covered = covered_delivered shape place run covered
+covered_site shape run happenings.DeliverAll sound covered = covered_delivery shape run covered
+covered_site shape run happenings.Inject sound covered = covered_injection shape run sound covered
+covered_site shape run (happenings.Fail node) sound covered = covered_unless shape run (fail_step shape node run) covered (covered_fail shape node run sound covered)
+covered_site shape run (happenings.Restart node) sound covered = covered_unless shape run (restart_step node run) covered (covered_restarted shape node run covered)
+covered_site shape run happenings.Resend sound covered = covered_unless shape run (resend_step shape run) covered (covered_resend shape run covered)
+covered_site shape run happenings.Injector sound covered = covered_injector shape run covered
 
-covered_on : (shape : Shape) (played : Played) (lined : List LinedEvent) → IsSound shape played.run → IsCovered shape played.run → IsCovered shape (fold (played_on shape) played lined).run
-covered_on shape played [] sound covered = covered
-covered_on shape played (event ∷ later) sound covered =
-    covered_on shape (played_on shape played event) later (goes shape played.run event.event sound).sound (covered_event shape played.run event.event sound covered)
+-- the site is sound and covered
+record Stands (shape : Shape) (run : Progress) : Type 0 where
+  sound : IsSound shape run
+  covered : IsCovered shape run
+
+stands_on : (setup : Setup) (site : SiteId) (lined : List LinedEvent) → HasBuckets (setup_at site setup) → Stands (shape_of setup site) (progress_at site (play_of setup lined).sites)
+unfolding play_of
+stands_on setup site lined has =
+    along_site setup site (Stands (shape_of setup site))
+    (λ event run before. record { sound = (goes_site (shape_of setup site) run event before.sound).sound; covered = covered_site (shape_of setup site) run event before.sound before.covered })
+    lined (not_played setup) (record { sound = sound_at_first setup site has; covered = first site })
+  where
+    first : (site : SiteId) → IsCovered (shape_of setup site) (progress_at site (beginnings setup))
+    first A = covered_beginning (shape_of setup A) setup.a.groups setup.a.replicas refl
+    first B = covered_beginning (shape_of setup B) setup.b.groups setup.b.replicas refl
 
 -- a fact about each number of a list
 all_among : (P : ℕ → Type 0) (xs : List ℕ) → ((x : ℕ) → Among x xs → P x) → AllByRecursion P xs
@@ -429,18 +456,16 @@ has_unacknowledged shape since acknowledged opened bucket j order low =
 
 -- in every run that lost no group, a bucket's owner is up and has buffered every closed epoch that
 -- is not acknowledged
-pub owners_can_send_again : (setup : Setup) (lined : List LinedEvent) → 0 < setup.a.groups * setup.a.replicas → 0 < setup.a.replicas → (play_of setup lined).run.lost ≡ None →
-    (bucket epoch : ℕ) → bucket < setup.a.groups * setup.a.replicas → IsClosed epoch (play_of setup lined).run.journal → acknowledged_epoch (shape_of setup) (play_of setup lined).run < epoch →
-    CanSendAgain (shape_of setup) (play_of setup lined).run bucket epoch
-unfolding play_of
-owners_can_send_again setup lined some each none bucket epoch within closed above =
-    let shape = shape_of setup in
-    let run : Progress = (fold (played_on shape) (not_played setup) lined).run in
-    let start = sound_beginning shape setup.a.groups setup.a.replicas refl some each in
-    let sound = (goes_on shape (not_played setup) lined start).sound in
-    let covered = covered_on shape (not_played setup) lined start (covered_beginning shape setup.a.groups setup.a.replicas refl) none bucket within in
+pub owners_can_send_again : (setup : Setup) (site : SiteId) (lined : List LinedEvent) → HasBuckets (setup_at site setup) → (progress_at site (play_of setup lined).sites).lost ≡ None →
+    (bucket epoch : ℕ) → bucket < (shape_of setup site).buckets → IsClosed epoch (progress_at site (play_of setup lined).sites).journal → (progress_at site (play_of setup lined).sites).acknowledged < epoch →
+    CanSendAgain (shape_of setup site) (progress_at site (play_of setup lined).sites) bucket epoch
+owners_can_send_again setup site lined has none bucket epoch within closed above =
+    let shape = shape_of setup site in
+    let run : Progress = progress_at site (play_of setup lined).sites in
+    let stands = stands_on setup site lined has in
+    let covered = stands.covered.owners none bucket within in
     let owner : Node = node_at run.nodes (owner_in run.nodes bucket) in
-    let both = and_parts owner.up (nat_le owner.since (needed_of shape run)) covered in
-    let least : needed_of shape run ≤ epoch = needed_least (acknowledged_epoch shape run) run.opened epoch run.journal sound.order closed above in
-    let since = leb-true owner.since (needed_of shape run) both.1 in
-    record { up = both.0; since = omega arith; has = has_unacknowledged shape owner.since (acknowledged_epoch shape run) run.opened bucket run.journal sound.order since }
+    let both = and_parts owner.up (nat_le owner.since (needed_of run)) covered in
+    let least : needed_of run ≤ epoch = needed_least run.acknowledged run.opened epoch run.journal stands.sound.order closed above in
+    let since = leb-true owner.since (needed_of run) both.1 in
+    record { up = both.0; since = omega arith; has = has_unacknowledged shape owner.since run.acknowledged run.opened bucket run.journal stands.sound.order since }

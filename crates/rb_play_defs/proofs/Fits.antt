@@ -1,7 +1,7 @@
 -- All changes and rows of a site fit its tables.
-use Rattle.std.proofs.Common.{◌≡◌, ℕ, ◌+◌, Bool, true, false, cond, List, [], ◌∷◌, map, filter, take, refl, sym, subst, ◌∙◌, eqb-true}
-use Rattle.std.specs.Prelude.{◌==◌, ◌&&◌, Option, Some, None, IfSome, unwrap_or, if◌then◌else◌}
-use Rattle.std.specs.List.{AllByRecursion, flat_map, filter_map, cons_option, list_any, enumerate_from, last_or}
+use Rattle.std.proofs.Common.{◌≡◌, ℕ, ◌+◌, Bool, true, false, cond, List, [], ◌∷◌, ◌++◌, filter, take, refl, subst, inl, inr, eq-eqb, eqb-true}
+use Rattle.std.specs.Prelude.{◌⊎◌, ◌==◌, ◌&&◌, not, Option, Some, None, IfSome, if◌then◌else◌, map}
+use Rattle.std.specs.List.{AllByRecursion, flat_map, filter_map, cons_option, list_any, enumerate_from}
 use Rattle.rb_base.specs.declared.row.Row.{Row}
 use Rattle.rb_base.specs.declared.schema.Mapped.{Mapped}
 use Rattle.rb_base.specs.declared.schema.Column.{Column}
@@ -13,7 +13,9 @@ use Rattle.rb_base.specs.declared.script.Op.TheVariants.{Ins, Upd, Put, Del}
 use Rattle.rb_base.specs.declared.script.ClientOp.{ClientOp}
 use Rattle.rb_log_defs.specs.Table.{columns_of}
 use Rattle.rb_log_defs.specs.Fits.{IsImage, FitsKind}
-use Rattle.rb_journal_defs.specs.Journal.{Journal, changes_of, epoch_of, names_key, of_key, row_after_kind, row_after, row_left, row_at}
+use Rattle.rb_base.specs.Site.{server_of}
+use Rattle.rb_base.specs.declared.site.SiteId.{SiteId}
+use Rattle.rb_journal_defs.specs.Journal.{Entry, Client, Applied, Closed, Journal, row_changes_of, changes_of, status_change, epoch_of, names_key, of_key, row_after_kind, row_after, row_left, row_at}
 use Rattle.rb_journal_defs.specs.Body.{Shape, changes_in, part_of, numbers_below, is_logged, body_changes}
 use Rattle.rb_journal_defs.specs.Table.{key_in}
 use Rattle.rb_journal_defs.specs.Transaction.{Refusal, RowTwice, NoKey, is_same_row, refused_over, refusal_after, first_of, refusal_of, kind_over, before_image, after_image, change_over, changes_made}
@@ -32,22 +34,56 @@ all_flat : {X Y : Type 0} → (P : Y → Type 0) (f : X → List Y) (xs : List X
 all_flat P f [] all = tt
 all_flat P f (x ∷ xs) all = all_joined P (f x) (flat_map f xs) (all x) (all_flat P f xs all)
 
--- the changes of an epoch fit their tables
-pub epoch_fits : (shape : Shape) (e : ℕ) (j : Journal) → JournalFits shape j → AllByRecursion (FitsTables shape.tables) (changes_in shape.site e j)
+-- a change that fits its table, or is of the apply-status table
+FitsOrStatus : List Mapped → Change → Type 0
+FitsOrStatus tables change = (change.table ≡ 0) ⊎ FitsTables tables change
+
+all_weaker : (tables : List Mapped) (changes : List Change) → AllByRecursion (FitsTables tables) changes → AllByRecursion (FitsOrStatus tables) changes
+unfolding FitsOrStatus
+all_weaker tables [] fits = tt
+all_weaker tables (change ∷ changes) fits = (inr fits.0, all_weaker tables changes fits.1)
+
+-- the changes of an entry fit their tables, but for the applier's progress
+entry_fits : (tables : List Mapped) (site : SiteId) (entry : Entry) → AllByRecursion (FitsTables tables) (row_changes_of entry) → AllByRecursion (FitsOrStatus tables) (changes_of site entry)
+unfolding FitsOrStatus
+entry_fits tables site (Client epoch transid changes) fits = all_weaker tables changes fits
+entry_fits tables site (Applied epoch source transid accepted refreshes) fits =
+    all_joined (FitsOrStatus tables) (accepted ++ refreshes) (status_change site source transid ∷ []) (all_weaker tables (accepted ++ refreshes) fits) (inl refl, tt)
+entry_fits tables site (Closed epoch) fits = tt
+
+-- so do the changes of an epoch
+epoch_fits : (shape : Shape) (e : ℕ) (j : Journal) → JournalFits shape j → AllByRecursion (FitsOrStatus shape.tables) (changes_in shape.site e j)
 epoch_fits shape e [] fits = tt
 epoch_fits shape e (x ∷ j) fits =
-    all_joined (FitsTables shape.tables) (changes_in shape.site e j) (if epoch_of x == e then changes_of shape.site x else []) (epoch_fits shape e j fits.1) (go (epoch_of x == e))
+    all_joined (FitsOrStatus shape.tables) (changes_in shape.site e j) (if epoch_of x == e then changes_of shape.site x else []) (epoch_fits shape e j fits.1) (go (epoch_of x == e))
   where
-    go : (b : Bool) → AllByRecursion (FitsTables shape.tables) (cond b (changes_of shape.site x) [])
-    go true = fits.0
+    go : (b : Bool) → AllByRecursion (FitsOrStatus shape.tables) (cond b (changes_of shape.site x) [])
+    go true = entry_fits shape.tables shape.site x fits.0
     go false = tt
+
+-- the changes that are logged fit their tables
+logged_fit : (tables : List Mapped) (site : SiteId) (changes : List Change) → AllByRecursion (FitsOrStatus tables) changes → AllByRecursion (FitsTables tables) (filter (is_logged site) changes)
+unfolding FitsOrStatus
+logged_fit tables site [] fits = tt
+logged_fit tables site (change ∷ changes) fits = go fits.0 (change.author == server_of site) (logged_fit tables site changes fits.1)
+  where
+    none : (b : Bool) → AllByRecursion (FitsTables tables) (filter (is_logged site) changes) → AllByRecursion (FitsTables tables) (cond (false && b) (change ∷ filter (is_logged site) changes) (filter (is_logged site) changes))
+    none b rest = rest
+
+    some : (b : Bool) → FitsTables tables change → AllByRecursion (FitsTables tables) (filter (is_logged site) changes) → AllByRecursion (FitsTables tables) (cond b (change ∷ filter (is_logged site) changes) (filter (is_logged site) changes))
+    some true own rest = (own, rest)
+    some false own rest = rest
+
+    go : (change.table ≡ 0) ⊎ FitsTables tables change → (b : Bool) → AllByRecursion (FitsTables tables) (filter (is_logged site) changes) → AllByRecursion (FitsTables tables) (cond (not (change.table == 0) && b) (change ∷ filter (is_logged site) changes) (filter (is_logged site) changes))
+    go (inl status) b rest = rw (eq-eqb change.table 0 status) (none b rest)
+    go (inr own) b rest = some (not (change.table == 0) && b) own rest
 
 -- the changes of a body fit their tables
 pub body_fits : (shape : Shape) (e : ℕ) (j : Journal) → JournalFits shape j → AllByRecursion (FitsTables shape.tables) (body_changes shape e j)
 body_fits shape e j fits =
-    all_filtered (FitsTables shape.tables) (is_logged shape.site) (flat_map (λ bucket. part_of shape e bucket j) (numbers_below shape.buckets))
-    (all_flat (FitsTables shape.tables) (λ bucket. part_of shape e bucket j) (numbers_below shape.buckets)
-    (λ bucket. all_filtered (FitsTables shape.tables) _ (changes_in shape.site e j) (epoch_fits shape e j fits)))
+    logged_fit shape.tables shape.site (flat_map (λ bucket. part_of shape e bucket j) (numbers_below shape.buckets))
+    (all_flat (FitsOrStatus shape.tables) (λ bucket. part_of shape e bucket j) (numbers_below shape.buckets)
+    (λ bucket. all_filtered (FitsOrStatus shape.tables) _ (changes_in shape.site e j) (epoch_fits shape e j fits)))
 
 -- a row of a table fits it
 RowFits : List Mapped → (table key : ℕ) → Option Row → Type 0
@@ -73,35 +109,24 @@ named_key table key change names = go (change.table == table) (change.key == key
     go true false p q names = absurd (let g : false ≡ true = names in cc)
     go false b p q names = absurd (let g : false ≡ true = names in cc)
 
-left_fits : (tables : List Mapped) (table key : ℕ) (changes : List Change) (row : Option Row) → AllByRecursion (FitsTables tables) changes → RowFits tables table key row → RowFits tables table key (unwrap_or (last_or (Some row) (map row_after (of_key table key changes))) row)
+left_fits : (tables : List Mapped) (table key : ℕ) (changes : List Change) (row : Option Row) → AllByRecursion (FitsTables tables) changes → RowFits tables table key row → RowFits tables table key (row_left (of_key table key changes) row)
 unfolding RowFits
 left_fits tables table key [] row fits is = is
 left_fits tables table key (change ∷ changes) row fits is = go (names_key table key change) refl (left_fits tables table key changes)
   where
-    same_end : (d : Option Row) (rows : List (Option Row)) (e : Option Row) → unwrap_or (last_or (Some d) rows) d ≡ unwrap_or (last_or (Some d) rows) e
-    same_end d [] e = refl
-    same_end d (x ∷ rows) e = sym (same_end x rows d) ∙ same_end x rows e
-
-    go : (b : Bool) → names_key table key change ≡ b → ((row : Option Row) → AllByRecursion (FitsTables tables) changes → RowFits tables table key row → RowFits tables table key (unwrap_or (last_or (Some row) (map row_after (of_key table key changes))) row)) → IfSome (unwrap_or (last_or (Some row) (map row_after (cond b (change ∷ of_key table key changes) (of_key table key changes)))) row) (IsRowOf (columns_of tables table) key)
+    go : (b : Bool) → names_key table key change ≡ b → ((row : Option Row) → AllByRecursion (FitsTables tables) changes → RowFits tables table key row → RowFits tables table key (row_left (of_key table key changes) row)) → IfSome (row_left (cond b (change ∷ of_key table key changes) (of_key table key changes)) row) (IsRowOf (columns_of tables table) key)
     go false q more = more row fits.1 is
     go true q more =
         let named = named_key table key change q in
-        let own : IfSome (row_after change) (IsRowOf (columns_of tables table) key) =
-        subst (λ (k : ℕ). IfSome (row_after change) (IsRowOf (columns_of tables table) k)) named.1
-        (subst (λ (t : ℕ). IfSome (row_after change) (IsRowOf (columns_of tables t) change.key)) named.0 (after_fits tables change fits.0)) in
-        subst (λ (r : Option Row). IfSome r (IsRowOf (columns_of tables table) key)) (same_end (row_after change) (map row_after (of_key table key changes)) row) (more (row_after change) fits.1 own)
-
-row_left_is : (changes : List Change) (row : Option Row) → row_left changes row ≡ unwrap_or (last_or (Some row) (map row_after changes)) row
-row_left_is [] row = refl
-row_left_is (change ∷ changes) row = refl
+        more (row_after change) fits.1
+        (subst (λ (k : ℕ). IfSome (row_after change) (IsRowOf (columns_of tables table) k)) named.1
+        (subst (λ (t : ℕ). IfSome (row_after change) (IsRowOf (columns_of tables t) change.key)) named.0 (after_fits tables change fits.0)))
 
 -- the row of a key fits its table
-pub row_fits : (shape : Shape) (table key : ℕ) (j : Journal) → JournalFits shape j → IfSome (row_at shape.site table key j) (IsRowOf (columns_of shape.tables table) key)
+pub row_fits : (shape : Shape) (table key : ℕ) (j : Journal) → JournalFits shape j → IfSome (row_at table key j) (IsRowOf (columns_of shape.tables table) key)
 unfolding RowFits
 row_fits shape table key [] fits = tt
-row_fits shape table key (x ∷ j) fits =
-    subst (λ (r : Option Row). IfSome r (IsRowOf (columns_of shape.tables table) key)) (sym (row_left_is (of_key table key (changes_of shape.site x)) (row_at shape.site table key j)))
-    (left_fits shape.tables table key (changes_of shape.site x) (row_at shape.site table key j) fits.0 (row_fits shape table key j fits.1))
+row_fits shape table key (x ∷ j) fits = left_fits shape.tables table key (row_changes_of x) (row_at table key j) fits.0 (row_fits shape table key j fits.1)
 
 -- if a transaction is not refused, none of its operations is
 not_refused : (rows : ℕ → ℕ → Option Row) (all : List ClientOp) (from : ℕ) (later : List ClientOp) → first_of (filter_map (λ numbered. refusal_after rows (take numbered.0 all) numbered.0 numbered.1) (enumerate_from from later)) ≡ None → AllByRecursion (λ operation. (n : ℕ) × (refused_over n operation.op (rows operation.table operation.key) ≡ None)) later
@@ -180,7 +205,7 @@ all_made tables author transid rows (operation ∷ operations) fits is free =
     (made_fits tables author transid free.0.0 operation (rows operation.table operation.key) fits.0 (is operation.table operation.key) free.0.1, all_made tables author transid rows operations fits.1 is free.1)
 
 -- the changes of an accepted transaction fit their tables
-pub changes_fit : (shape : Shape) (author transid : ℕ) (operations : List ClientOp) (j : Journal) → JournalFits shape j → AllByRecursion (OperationFits shape.tables) operations → refusal_of (λ table key. row_at shape.site table key j) operations ≡ None → AllByRecursion (FitsTables shape.tables) (changes_made (λ table key. row_at shape.site table key j) author transid operations)
+pub changes_fit : (shape : Shape) (author transid : ℕ) (operations : List ClientOp) (j : Journal) → JournalFits shape j → AllByRecursion (OperationFits shape.tables) operations → refusal_of (λ table key. row_at table key j) operations ≡ None → AllByRecursion (FitsTables shape.tables) (changes_made (λ table key. row_at table key j) author transid operations)
 unfolding refusal_of changes_made
 changes_fit shape author transid operations j fits ops free =
-    all_made shape.tables author transid (λ table key. row_at shape.site table key j) operations ops (λ table key. row_fits shape table key j fits) (not_refused (λ table key. row_at shape.site table key j) operations 0 operations free)
+    all_made shape.tables author transid (λ table key. row_at table key j) operations ops (λ table key. row_fits shape table key j fits) (not_refused (λ table key. row_at table key j) operations 0 operations free)

@@ -1,5 +1,5 @@
 -- The growth of a run: the site stays sound, and its log only gets longer.
-use Rattle.std.proofs.Common.{◌≡◌, ℕ, zero, suc, ◌+◌, ◌*◌, ◌<◌, ◌≤◌, Bool, true, false, List, [], ◌∷◌, ◌++◌, length, take, drop, fold, refl, sym, ap, subst, ◌∙◌, arith, append_assoc}
+use Rattle.std.proofs.Common.{◌≡◌, ℕ, zero, suc, ◌+◌, ◌≤◌, Bool, true, false, List, [], ◌∷◌, ◌++◌, length, take, drop, fold, refl, sym, ap, subst, ◌∙◌, arith, append_assoc}
 use Rattle.std.specs.Prelude.{if◌then◌else◌, Option, Some, None}
 use Rattle.std.specs.List.{slice_get}
 use Rattle.std.specs.Option.{option_map_or}
@@ -9,23 +9,26 @@ use Rattle.rb_base.specs.declared.message.Sent.{Sent}
 use Rattle.rb_base.specs.declared.outcome.Outcome.TheVariants as outcomes
 use Rattle.rb_base.specs.declared.body.EpochBody.{EpochBody}
 use Rattle.rb_base.specs.declared.script.ClientOp.{ClientOp}
-use Rattle.rb_base.specs.declared.script.Event.{Event}
-use Rattle.rb_base.specs.declared.script.Event.TheVariants as events
 use Rattle.rb_text_defs.specs.declared.script.LinedEvent.{LinedEvent}
 use Rattle.rb_journal_defs.specs.Body.{Shape, body_of, completed_bodies}
 use Rattle.rb_journal_defs.specs.Transaction.{Refusal, refusal_of}
-use Rattle.rb_journal_defs.proofs.Bodies.{if_logged, completed_client, completed_closed}
+use Rattle.rb_journal_defs.proofs.Bodies.{if_logged, completed_entered, completed_closed}
 use Rattle.rb_message_defs.specs.Received.{answer_to}
-use Rattle.rb_play_defs.specs.Step.{Progress, unchanged, refused, rows_of, tx_changes, committed, commit_outcome, tx_step, closed, close_step, fed_by, delivered_message, answer_outcome, deliver_step, undelivered, after_delivery, all_delivered, delivery_of_all, deliver_all_step, StepResult, needed_of, takeover_step, loss_step, fail_step, restart_step, resend_step, injector_step, unless_lost, takeable, injected, injection_of, inject_step, site_step, written_bodies, with_taken}
+use Rattle.rb_play_defs.specs.Step.{Progress, unchanged, refused, rows_of, entered, tx_entry, committed, commit_outcome, tx_step, closed, close_step, fed_by, delivered_message, answer_outcome, deliver_step, undelivered, after_delivery, all_delivered, delivery_of_all, deliver_all_step, StepResult, needed_of, takeover_step, loss_step, fail_step, restart_step, resend_step, injector_step, unless_lost, takeable, with_all_taken, injected, injection_of, inject_step, site_step, written_bodies, with_taken}
 use Rattle.rb_play_defs.specs.Sound.{IsSound}
 use Rattle.rb_play_defs.specs.declared.event.SiteEvent.{SiteEvent}
 use Rattle.rb_play_defs.specs.declared.event.SiteEvent.TheVariants as happenings
+use Rattle.rb_base.specs.declared.site.SiteId.{SiteId}
+use Rattle.rb_base.specs.declared.site.SiteId.TheVariants.{A, B}
 use Rattle.rb_base.specs.declared.script.Setup.{Setup}
+use Rattle.rb_journal_defs.specs.Journal.{Entry}
+use Rattle.rb_journal_defs.specs.Order.{AddsTo, HasAuthors}
 use Rattle.rb_message_defs.specs.Nodes.{node_at, successor_of, with_restart}
-use Rattle.rb_play_defs.specs.Play.{shape_of, log_step, event_step, Played, played_on, not_played, play_of}
-use Rattle.rb_play_defs.proofs.Sounds.{closed_all_below, sound_beginning, sound_commit, sound_close, sound_fail, sound_restart, sound_resend}
+use Rattle.rb_play_defs.specs.Play.{HasBuckets, setup_at, shape_of, Sites, progress_at, after_steps, beginnings, Played, played_on, not_played, play_of}
+use Rattle.rb_play_defs.proofs.Along.{along_site, steps_at_site}
+use Rattle.rb_play_defs.proofs.Sounds.{closed_all_below, sound_beginning, sound_entered, tx_authors, sound_commit, sound_close, sound_fail, sound_restart, sound_resend}
 use Rattle.rb_play_defs.proofs.Restarts.{sound_injector}
-use Rattle.rb_play_defs.proofs.Takes.{sound_delivered, sound_taken, takeable_rest, injected_more, injected_end, written_is, written_more}
+use Rattle.rb_play_defs.proofs.Takes.{sound_delivered, sound_taken, sound_injected, takeable_rest, taken_more, taken_end, written_is, written_more}
 
 -- the list `whole` begins with the list `first`
 pub record Begins (first whole : List EpochBody) : Type 0 where
@@ -64,16 +67,22 @@ written_within shape run sound = length_of_take run.written (completed_bodies sh
     length_of_take (suc n) [] same = absurd (omega arith)
     length_of_take (suc n) (x ∷ xs) same = let h : n ≤ length xs = length_of_take n xs (let s = same in omega arith) in omega arith
 
+-- a new entry of the open epoch
+goes_entered : (shape : Shape) (entry : Entry) (run : Progress) → AddsTo run.opened entry → HasAuthors shape.site entry → IsSound shape run → Goes shape run (entered shape entry run)
+goes_entered shape entry run adds authors sound = record {
+  sound = sound_entered shape entry run adds authors sound;
+  grows = begins_same (written_bodies shape run) (written_bodies shape (entered shape entry run)) (ap (take run.written) (completed_entered shape run.opened entry run.journal adds (closed_all_below run.opened run.journal sound.order)));
+}
+
 goes_commit : (shape : Shape) (operations : List ClientOp) (run : Progress) → IsSound shape run → Goes shape run (committed shape operations run)
 goes_commit shape operations run sound = record {
   sound = sound_commit shape operations run sound;
-  grows = begins_same (written_bodies shape run) (written_bodies shape (committed shape operations run))
-      (ap (take run.written) (completed_client shape run.opened (run.drawn + 1) (tx_changes shape operations run) run.journal (closed_all_below run.opened run.journal sound.order)));
+  grows = (goes_entered shape (tx_entry shape operations run) run refl (tx_authors shape operations run) sound).grows;
 }
 
 goes_tx : (shape : Shape) (operations : List ClientOp) (run : Progress) → IsSound shape run → Goes shape run (tx_step shape operations run).run
 unfolding tx_step
-goes_tx shape operations run sound = go (refusal_of (rows_of shape run) operations)
+goes_tx shape operations run sound = go (refusal_of (rows_of run) operations)
   where
     go : (x : Option Refusal) → Goes shape run (option_map_or (λ refusal. unchanged run (refused refusal)) x (record { run = committed shape operations run; outcome = commit_outcome (committed shape operations run) })).run
     go None = goes_commit shape operations run sound
@@ -105,22 +114,27 @@ pub goes_delivery : (shape : Shape) (run : Progress) → IsSound shape run → G
 unfolding delivery_of_all
 goes_delivery shape run sound = goes_all shape (undelivered run) run sound
 
-pub goes_taken : (shape : Shape) (run : Progress) (es : List ℕ) → IsSound shape run → takeable shape run ≡ es → Goes shape run (injected shape run)
-goes_taken shape run [] sound same = subst (Goes shape run) (sym (injected_end shape run same)) (goes_self shape run sound)
+pub goes_taken : (shape : Shape) (run : Progress) (es : List ℕ) → IsSound shape run → takeable shape run ≡ es → Goes shape run (with_all_taken shape run)
+goes_taken shape run [] sound same = subst (Goes shape run) (sym (taken_end shape run same)) (goes_self shape run sound)
 goes_taken shape run (e ∷ rest) sound same =
     let next = sound_taken shape run e rest sound same in
     let one : Goes shape run (with_taken shape run e) = record { sound = next; grows = record { rest = if_logged (body_of shape e run.journal); whole_is = written_more shape run e rest sound same } } in
-    subst (Goes shape run) (sym (injected_more shape run e rest sound same))
-    (goes_then shape run (with_taken shape run e) (injected shape (with_taken shape run e)) one (goes_taken shape (with_taken shape run e) rest next (takeable_rest shape run e rest sound same)))
+    subst (Goes shape run) (sym (taken_more shape run e rest sound same))
+    (goes_then shape run (with_taken shape run e) (with_all_taken shape (with_taken shape run e)) one (goes_taken shape (with_taken shape run e) rest next (takeable_rest shape run e rest sound same)))
+
+pub goes_injected : (shape : Shape) (run : Progress) → IsSound shape run → Goes shape run (injected shape run)
+goes_injected shape run sound =
+    let taken = goes_taken shape run (takeable shape run) sound refl in
+    record { sound = sound_injected shape run sound; grows = taken.grows }
 
 pub goes_injection : (shape : Shape) (run : Progress) → IsSound shape run → Goes shape run (injection_of shape run).run
 unfolding injection_of
-goes_injection shape run sound = goes_taken shape run (takeable shape run) sound refl
+goes_injection shape run sound = goes_injected shape run sound
 
 -- the failure or the restart of a node, and a resend
 goes_fail : (shape : Shape) (node : ℕ) (run : Progress) → IsSound shape run → Goes shape run (fail_step shape node run).run
 unfolding fail_step
-goes_fail shape node run sound = record { sound = sound_fail shape node run sound; grows = go (node_at run.nodes node).up (successor_of run.nodes (needed_of shape run) node) }
+goes_fail shape node run sound = record { sound = sound_fail shape node run sound; grows = go (node_at run.nodes node).up (successor_of run.nodes (needed_of run) node) }
   where
     go : (up : Bool) (successor : Option ℕ) → Begins (written_bodies shape run) (written_bodies shape (if up then option_map_or (λ other. takeover_step shape node other run) successor (loss_step shape node run) else unchanged run (outcomes.NodeDown node)).run)
     go true None = begins_self (written_bodies shape run)
@@ -165,46 +179,31 @@ goes_site shape run (happenings.Restart node) sound = goes_unless shape run (res
 goes_site shape run happenings.Resend sound = goes_unless shape run (resend_step shape run) sound (goes_resend shape run sound)
 goes_site shape run happenings.Injector sound = goes_injector shape run sound
 
-goes_log : (shape : Shape) (run : Progress) → IsSound shape run → Goes shape run (log_step shape run).run
-unfolding log_step
-goes_log shape run sound =
-    let first = goes_delivery shape run sound in
-    goes_then shape run (delivery_of_all shape run).run (injection_of shape (delivery_of_all shape run).run).run first (goes_injection shape (delivery_of_all shape run).run first.sound)
+-- the events of a script, at each of its sites
+pub goes_on : (setup : Setup) (site : SiteId) (lined : List LinedEvent) (played : Played) → IsSound (shape_of setup site) (progress_at site played.sites) → Goes (shape_of setup site) (progress_at site played.sites) (progress_at site (fold (played_on setup) played lined).sites)
+goes_on setup site lined played sound =
+    along_site setup site (Goes (shape_of setup site) (progress_at site played.sites))
+    (λ event run before. goes_then (shape_of setup site) (progress_at site played.sites) run (site_step (shape_of setup site) run event).run before (goes_site (shape_of setup site) run event before.sound))
+    lined played (goes_self (shape_of setup site) (progress_at site played.sites) sound)
 
--- an event of a script
-pub goes : (shape : Shape) (run : Progress) (event : Event) → IsSound shape run → Goes shape run (event_step shape run event).run
-unfolding event_step site_step close_step deliver_all_step inject_step
-goes shape run (events.Tx site operations) sound = goes_unless shape run (tx_step shape operations run) sound (goes_tx shape operations run sound)
-goes shape run (events.Close site gci) sound = goes_unless shape run (close_step shape gci run) sound (goes_close shape gci run sound)
-goes shape run (events.Deliver site place) sound = goes_deliver shape place run sound
-goes shape run (events.DeliverAll site) sound = goes_delivery shape run sound
-goes shape run (events.Inject site) sound = goes_injection shape run sound
-goes shape run (events.Log site) sound = goes_log shape run sound
-goes shape run (events.Fail site node) sound = goes_unless shape run (fail_step shape node run) sound (goes_fail shape node run sound)
-goes shape run (events.Restart site node) sound = goes_unless shape run (restart_step node run) sound (goes_restart shape node run sound)
-goes shape run (events.Resend site) sound = goes_unless shape run (resend_step shape run) sound (goes_resend shape run sound)
-goes shape run (events.Injector site) sound = goes_injector shape run sound
-goes shape run (events.Piece site file position count) sound = goes_self shape run sound
-goes shape run (events.Pull site) sound = goes_self shape run sound
-goes shape run (events.Apply site) sound = goes_self shape run sound
-goes shape run (events.Flow site) sound = goes_self shape run sound
-goes shape run (events.Applier site) sound = goes_self shape run sound
-goes shape run (events.Dump site) sound = goes_self shape run sound
-goes shape run events.Drain sound = goes_self shape run sound
-
--- a list of events
-pub goes_on : (shape : Shape) (played : Played) (lined : List LinedEvent) → IsSound shape played.run → Goes shape played.run (fold (played_on shape) played lined).run
-goes_on shape played [] sound = goes_self shape played.run sound
-goes_on shape played (event ∷ later) sound =
-    let one = goes shape played.run event.event sound in
-    goes_then shape played.run (played_on shape played event).run (fold (played_on shape) played (event ∷ later)).run one (goes_on shape (played_on shape played event) later one.sound)
+-- the steps of one event
+pub goes_steps : (setup : Setup) (site : SiteId) (steps : List (SiteId × SiteEvent)) (sites : Sites) → IsSound (shape_of setup site) (progress_at site sites) → Goes (shape_of setup site) (progress_at site sites) (progress_at site (after_steps setup sites steps))
+goes_steps setup site steps sites sound =
+    steps_at_site setup site (Goes (shape_of setup site) (progress_at site sites))
+    (λ event run before. goes_then (shape_of setup site) (progress_at site sites) run (site_step (shape_of setup site) run event).run before (goes_site (shape_of setup site) run event before.sound))
+    steps sites (goes_self (shape_of setup site) (progress_at site sites) sound)
 
 -- the run of the first `i` events, continued with the other events, is the whole run
-pub played_rest : (setup : Setup) (lined : List LinedEvent) (i : ℕ) → fold (played_on (shape_of setup)) (play_of setup (take i lined)) (drop i lined) ≡ play_of setup lined
+pub played_rest : (setup : Setup) (lined : List LinedEvent) (i : ℕ) → fold (played_on setup) (play_of setup (take i lined)) (drop i lined) ≡ play_of setup lined
 unfolding play_of
-played_rest setup lined i = sym (fold-append (played_on (shape_of setup)) (not_played setup) (take i lined) (drop i lined)) ∙ ap (fold (played_on (shape_of setup)) (not_played setup)) (take-append-drop i lined)
+played_rest setup lined i = sym (fold-append (played_on setup) (not_played setup) (take i lined) (drop i lined)) ∙ ap (fold (played_on setup) (not_played setup)) (take-append-drop i lined)
 
--- the site is sound after the first `i` events of a run
-pub sound_prefix : (setup : Setup) (lined : List LinedEvent) (i : ℕ) → 0 < setup.a.groups * setup.a.replicas → 0 < setup.a.replicas → IsSound (shape_of setup) (play_of setup (take i lined)).run
+-- each site is sound before the first event
+pub sound_at_first : (setup : Setup) (site : SiteId) → HasBuckets (setup_at site setup) → IsSound (shape_of setup site) (progress_at site (beginnings setup))
+sound_at_first setup A has = sound_beginning (shape_of setup A) setup.a.groups setup.a.replicas refl has.some has.each
+sound_at_first setup B has = sound_beginning (shape_of setup B) setup.b.groups setup.b.replicas refl has.some has.each
+
+-- each site is sound after the first events of a run
+pub sound_prefix : (setup : Setup) (site : SiteId) (lined : List LinedEvent) (i : ℕ) → HasBuckets (setup_at site setup) → IsSound (shape_of setup site) (progress_at site (play_of setup (take i lined)).sites)
 unfolding play_of
-sound_prefix setup lined i some each = (goes_on (shape_of setup) (not_played setup) (take i lined) (sound_beginning (shape_of setup) setup.a.groups setup.a.replicas refl some each)).sound
+sound_prefix setup site lined i has = (goes_on setup site (take i lined) (not_played setup) (sound_at_first setup site has)).sound

@@ -1,3 +1,5 @@
+pub mod Along
+pub mod Alike
 pub mod Sounds
 pub mod Takes
 pub mod Restarts
@@ -6,4 +8,5 @@ pub mod Columns
 pub mod Fits
 pub mod Counts
 pub mod Tables
+pub mod Steps
 pub mod Covering

@@ -12,7 +12,7 @@ use Rattle.rb_journal_defs.specs.Order.{IsClosed}
 use Rattle.rb_journal_defs.proofs.Order.{Rises, Among, closed_rise, among_closed, lt_or_le, upto}
 use Rattle.rb_message_defs.specs.Nodes.{owner_in}
 use Rattle.rb_message_defs.proofs.Messages.{all_below}
-use Rattle.rb_play_defs.specs.Step.{Progress, last_epoch, acknowledged_epoch, sent_by_owners, sent_to_injector, injector_step, worth_logging}
+use Rattle.rb_play_defs.specs.Step.{Progress, last_epoch, last_written, sent_by_owners, sent_to_injector, injector_step, worth_logging}
 use Rattle.rb_play_defs.specs.Sound.{IsOwn, IsSound}
 use Rattle.rb_play_defs.proofs.Sounds.{sound_sent, again_own}
 use Rattle.rb_play_defs.proofs.Takes.{written_is}
@@ -23,9 +23,9 @@ unfolding body_of
 epochs_of_bodies shape j [] = refl
 epochs_of_bodies shape j (e ∷ es) = ap (λ (xs : List ℕ). e ∷ xs) (epochs_of_bodies shape j es)
 
--- the acknowledged epoch is the last epoch that has something to log, up to the last taken one
-pub acknowledged_is : (shape : Shape) (run : Progress) → IsSound shape run → acknowledged_epoch shape run ≡ unwrap_or (last_or None (worth_logging shape run.journal (upto run.last run.journal))) 0
-acknowledged_is shape run sound =
+-- the last written epoch is the last one that has something to log, up to the last taken one
+pub last_written_is : (shape : Shape) (run : Progress) → IsSound shape run → last_written shape run ≡ unwrap_or (last_or None (worth_logging shape run.journal (upto run.last run.journal))) 0
+last_written_is shape run sound =
     ap last_epoch (written_is shape run sound)
     ∙ ap (λ (es : List ℕ). unwrap_or (last_or None es) 0) (epochs_of_bodies shape run.journal (worth_logging shape run.journal (upto run.last run.journal)))
 
@@ -127,16 +127,18 @@ among_kept e test (x ∷ xs) there = go (test x) there (among_kept e test xs)
     go true (inr later) more = inr (more later)
     go false later more = inr (more later)
 
--- a site whose event buffer is empty and whose last taken epoch is the acknowledged one stays sound
-sound_again : (shape : Shape) (run : Progress) → IsSound shape run → IsSound shape (record run { received = []; last = acknowledged_epoch shape run })
+-- a site whose event buffer is empty and whose last taken epoch is the last written one stays sound
+sound_again : (shape : Shape) (run : Progress) → IsSound shape run → IsSound shape (record run { received = []; last = last_written shape run })
 sound_again shape run sound =
     let test : ℕ → Bool = λ epoch. has_something_to_log (body_of shape epoch run.journal) in
     let rises : Rises run.opened (closed_epochs run.journal) = closed_rise run.opened run.journal sound.order in
     let logged : List ℕ = passing_upto test run.last (closed_epochs run.journal) in
-    let is : acknowledged_epoch shape run ≡ last_from 0 logged = acknowledged_is shape run sound ∙ last_is logged in
+    let is : last_written shape run ≡ last_from 0 logged = last_written_is shape run sound ∙ last_is logged in
     let closed : (last_from 0 logged ≡ 0) ⊎ Among (last_from 0 logged) logged = last_among 0 logged in
     record {
       order = sound.order;
+      near = sound.near;
+      authored = sound.authored;
       some = sound.some;
       sent = sound.sent;
       received = tt;
@@ -158,4 +160,4 @@ sent_to_own shape run (Some loss) = tt
 pub sound_injector : (shape : Shape) (run : Progress) → IsSound shape run → IsSound shape (injector_step shape run).run
 unfolding injector_step
 sound_injector shape run sound =
-    sound_sent shape (record run { received = []; last = acknowledged_epoch shape run }) (sent_to_injector shape run) (sound_again shape run sound) (sent_to_own shape run run.lost)
+    sound_sent shape (record run { received = []; last = last_written shape run }) (sent_to_injector shape run) (sound_again shape run sound) (sent_to_own shape run run.lost)

@@ -6,22 +6,25 @@ use Rattle.std.specs.Option.{option_map_or}
 use Rattle.std.proofs.Math.Nat.{lt-mul-div-succ, div-mul-le_self, mul-le-mul_left}
 use Rattle.std.proofs.lemmas.List.{length-map}
 use Rattle.std.proofs.lemmas.List.FromFn.{length-enumerate_from}
+use Rattle.rb_base.specs.Site.{server_of}
+use Rattle.rb_base.specs.declared.row.Row.{Row}
 use Rattle.rb_base.specs.declared.message.Message.{Message}
 use Rattle.rb_base.specs.declared.message.Sent.{Sent}
 use Rattle.rb_base.specs.declared.script.ClientOp.{ClientOp}
 use Rattle.rb_base.specs.declared.outcome.Outcome.TheVariants as outcomes
-use Rattle.rb_journal_defs.specs.Journal.{Client, Closed, Journal, closed_epochs}
+use Rattle.rb_journal_defs.specs.Journal.{Entry, Closed, Journal, closed_epochs}
+use Rattle.rb_journal_defs.specs.Transaction.{changes_made}
 use Rattle.rb_journal_defs.specs.Body.{Shape, body_of, has_something_to_log, numbers_below}
-use Rattle.rb_journal_defs.specs.Order.{InOrder, IsClosed}
+use Rattle.rb_journal_defs.specs.Order.{InOrder, IsClosed, AddsTo, MadeBy, HasAuthors}
 use Rattle.rb_journal_defs.specs.Clock.{epoch_after}
-use Rattle.rb_journal_defs.proofs.Bodies.{body_of_other, body_of_closed}
-use Rattle.rb_journal_defs.proofs.Order.{Rises, closed_rise, opened_above, closed_below, upto, upto_closed}
+use Rattle.rb_journal_defs.proofs.Bodies.{body_of_other, body_of_closed, adds_epoch, adds_closes_none}
+use Rattle.rb_journal_defs.proofs.Order.{Rises, closed_rise, opened_above, closed_below, upto, upto_closed, adds_in_order, adds_stays_closed}
 use Rattle.rb_message_defs.specs.Message.{IsMessageOf, done_message, sent_by}
 use Rattle.rb_message_defs.specs.Nodes.{Node, Nodes, nodes_at_first, node_at, owner_in, unacknowledged, group_of, successor_of, owned_by, with_node, with_failure, with_restart, with_owner, returns, with_returns, numbers_in}
-use Rattle.rb_message_defs.proofs.Messages.{all_more, all_joined, all_mapped, all_below, stays_at_commit, stays_at_close, previous_stays, part_of_close, parts_are_messages}
+use Rattle.rb_message_defs.proofs.Messages.{all_more, all_joined, all_mapped, all_below, stays_when_entered, stays_at_close, previous_stays, part_of_close, parts_are_messages}
 use Rattle.rb_message_defs.proofs.Again.{all_flat, again_is_own, sent_from_own}
 use Rattle.rb_message_defs.proofs.Numbers.{length_numbers}
-use Rattle.rb_play_defs.specs.Step.{Progress, beginning, unchanged, tx_changes, tx_messages, committed, acknowledged_epoch, needed_of, sent_again, only_closed, sent_at_close, closed, taken_over, takeover_step, loss_step, fail_step, restart_step, resend_step, worth_logging}
+use Rattle.rb_play_defs.specs.Step.{Progress, beginning, unchanged, rows_of, messages_entered, entered, tx_entry, committed, needed_of, sent_again, only_closed, sent_at_close, closed, taken_over, takeover_step, loss_step, fail_step, restart_step, resend_step, worth_logging}
 use Rattle.rb_play_defs.specs.Sound.{IsOwn, AreNodes, IsSound}
 
 gci_rises : (epoch : ℕ) → epoch < epoch_after true epoch
@@ -36,6 +39,11 @@ epoch_rises true epoch = gci_rises epoch
 own_sent : (shape : Shape) (j : Journal) (owner : ℕ → ℕ) (ms : List Message) → AllByRecursion (IsOwn shape j) ms → AllByRecursion (λ (s : Sent). IsOwn shape j s.message) (map (sent_by owner) ms)
 own_sent shape j owner [] all = tt
 own_sent shape j owner (m ∷ ms) all = (all.0, own_sent shape j owner ms all.1)
+
+-- the next epoch is at most 2^32 above the one that closes
+pub epoch_near : (gci : Bool) (epoch : ℕ) → epoch_after gci epoch ≤ epoch + 4294967296
+epoch_near false epoch = omega arith
+epoch_near true epoch = omega arith
 
 -- the Done of a bucket is a message of the journal after the close
 done_is_own : (shape : Shape) (o bucket : ℕ) (j : Journal) → bucket < shape.buckets → IsOwn shape (Closed o ∷ j) (done_message shape o bucket j)
@@ -99,6 +107,8 @@ nodes_at_start groups replicas some = record {
 pub sound_beginning : (shape : Shape) (groups replicas : ℕ) → shape.buckets ≡ groups * replicas → 0 < groups * replicas → 0 < replicas → IsSound shape (beginning groups replicas)
 sound_beginning shape groups replicas count some each = record {
   order = omega arith;
+  near = omega arith;
+  authored = tt;
   some = omega (arith, count);
   sent = tt;
   received = tt;
@@ -133,6 +143,8 @@ with_returns_stays buckets needed site nodes = record {
 pub sound_sent : (shape : Shape) (run : Progress) (sent : List Sent) → IsSound shape run → AllByRecursion (λ s. IsOwn shape run.journal s.message) sent → IsSound shape (record run { sent = run.sent ++ sent })
 sound_sent shape run sent sound own = record {
   order = sound.order;
+  near = sound.near;
+  authored = sound.authored;
   some = sound.some;
   sent = all_joined (λ s. IsOwn shape run.journal s.message) run.sent sent sound.sent own;
   received = sound.received;
@@ -142,14 +154,14 @@ sound_sent shape run sent sound own = record {
 }
 
 sound_nodes : (shape : Shape) (run : Progress) (nodes : Nodes) (lost : Option (ℕ × ℕ)) → IsSound shape run → AreNodes shape.buckets nodes → IsSound shape (record run { nodes = nodes; lost = lost })
-sound_nodes shape run nodes lost sound are = record { order = sound.order; some = sound.some; sent = sound.sent; received = sound.received; last = sound.last; nodes = are; written = sound.written }
+sound_nodes shape run nodes lost sound are = record { order = sound.order; near = sound.near; authored = sound.authored; some = sound.some; sent = sound.sent; received = sound.received; last = sound.last; nodes = are; written = sound.written }
 
 -- the messages that are resent for some buckets are the journal's
 pub again_own : (shape : Shape) (run : Progress) (sender : ℕ → ℕ) (buckets : List ℕ) → AllByRecursion (λ bucket. bucket < shape.buckets) buckets → AllByRecursion (λ s. IsOwn shape run.journal s.message) (flat_map (λ bucket. sent_again shape run (sender bucket) bucket) buckets)
 again_own shape run sender [] all = tt
 again_own shape run sender (bucket ∷ buckets) all =
     all_joined (λ s. IsOwn shape run.journal s.message) (sent_again shape run (sender bucket) bucket) (flat_map (λ b. sent_again shape run (sender b) b) buckets)
-    (sent_from_own shape run.journal (sender bucket) (unacknowledged shape (acknowledged_epoch shape run) run.opened run.journal bucket) (again_is_own shape (acknowledged_epoch shape run) run.opened run.journal bucket all.0))
+    (sent_from_own shape run.journal (sender bucket) (unacknowledged shape run.acknowledged run.opened run.journal bucket) (again_is_own shape run.acknowledged run.opened run.journal bucket all.0))
     (again_own shape run sender buckets all.1)
 
 -- a takeover
@@ -162,12 +174,12 @@ sound_takeover shape node successor run sound =
 
 -- the loss of a group
 pub sound_loss : (shape : Shape) (node : ℕ) (run : Progress) → IsSound shape run → IsSound shape (loss_step shape node run).run
-sound_loss shape node run sound = sound_nodes shape run (with_failure node (length run.sent) run.nodes) (Some (group_of run.nodes node, needed_of shape run)) sound (with_node_stays shape.buckets node _ run.nodes sound.nodes)
+sound_loss shape node run sound = sound_nodes shape run (with_failure node (length run.sent) run.nodes) (Some (group_of run.nodes node, needed_of run)) sound (with_node_stays shape.buckets node _ run.nodes sound.nodes)
 
 -- the failure or the restart of a node
 pub sound_fail : (shape : Shape) (node : ℕ) (run : Progress) → IsSound shape run → IsSound shape (fail_step shape node run).run
 unfolding fail_step
-sound_fail shape node run sound = go (node_at run.nodes node).up (successor_of run.nodes (needed_of shape run) node)
+sound_fail shape node run sound = go (node_at run.nodes node).up (successor_of run.nodes (needed_of run) node)
   where
     go : (up : Bool) (successor : Option ℕ) → IsSound shape (if up then option_map_or (λ other. takeover_step shape node other run) successor (loss_step shape node run) else unchanged run (outcomes.NodeDown node)).run
     go true None = sound_loss shape node run sound
@@ -189,25 +201,50 @@ sound_resend shape run sound =
     sound_sent shape run (flat_map (λ bucket. sent_again shape run (owner_in run.nodes bucket) bucket) (numbers_below shape.buckets)) sound
     (again_own shape run (owner_in run.nodes) (numbers_below shape.buckets) (all_below shape.buckets (λ k below. below)))
 
+-- a new entry of the open epoch
+pub sound_entered : (shape : Shape) (entry : Entry) (run : Progress) → AddsTo run.opened entry → HasAuthors shape.site entry → IsSound shape run → IsSound shape (entered shape entry run)
+sound_entered shape entry run adds authors sound =
+    let journal = entry ∷ run.journal in
+    let more = own_more shape run.journal journal (λ m is. stays_when_entered shape run.opened entry run.journal m adds sound.order is) in
+    let closed = adds_closes_none run.opened entry run.journal adds in
+    record {
+      order = adds_in_order run.opened entry run.journal adds sound.order;
+      near = (let near = sound.near in let same = ap length closed in omega arith);
+      authored = (authors, sound.authored);
+      some = sound.some;
+      sent = all_joined (λ (s : Sent). IsOwn shape journal s.message) run.sent (map (sent_by (owner_in run.nodes)) (messages_entered shape entry run))
+          (all_more (λ (s : Sent). IsOwn shape run.journal s.message) (λ (s : Sent). IsOwn shape journal s.message) run.sent (λ s own. more s.message own) sound.sent)
+          (own_sent shape journal (owner_in run.nodes) (messages_entered shape entry run) (parts_are_messages shape run.opened entry run.journal adds sound.some));
+      received = all_more (IsOwn shape run.journal) (IsOwn shape journal) run.received more sound.received;
+      last = stays sound.last;
+      nodes = sound.nodes;
+      written = sound.written ∙ ap length (sym (ap (λ (epochs : List ℕ). worth_logging shape journal (filter (λ epoch. nat_le epoch run.last) epochs)) closed ∙ worth_within shape run.journal journal run.opened (upto run.last run.journal)
+          (filter_below run.opened (λ e. nat_le e run.last) (closed_epochs run.journal) (closed_all_below run.opened run.journal sound.order))
+          (λ e l. body_of_other shape e entry run.journal (let m = l in let own = adds_epoch run.opened entry adds in λ q. absurd (omega arith)))));
+    }
+  where
+    stays : (run.last ≡ 0) ⊎ IsClosed run.last run.journal → (run.last ≡ 0) ⊎ IsClosed run.last (entry ∷ run.journal)
+    stays (inl q) = inl q
+    stays (inr c) = inr (adds_stays_closed run.opened run.last entry run.journal adds c)
+
+-- the changes of a client's transaction have the site as their author
+made_by_site : (rows : ℕ → ℕ → Option Row) (author transid : ℕ) (operations : List ClientOp) → MadeBy author (changes_made rows author transid operations)
+unfolding changes_made
+made_by_site rows author transid [] = tt
+made_by_site rows author transid (operation ∷ operations) = (refl, made_by_site rows author transid operations)
+
+pub tx_authors : (shape : Shape) (operations : List ClientOp) (run : Progress) → HasAuthors shape.site (tx_entry shape operations run)
+tx_authors shape operations run = made_by_site (rows_of run) (server_of shape.site) (run.drawn + 1) operations
+
+-- another number of transactions changes nothing of this
+sound_drawn : (shape : Shape) (run : Progress) (drawn : ℕ) → IsSound shape run → IsSound shape (record run { drawn = drawn })
+sound_drawn shape run drawn sound = record { order = sound.order; near = sound.near; authored = sound.authored; some = sound.some; sent = sound.sent; received = sound.received; last = sound.last; nodes = sound.nodes; written = sound.written }
+
 -- an accepted transaction
 pub sound_commit : (shape : Shape) (operations : List ClientOp) (run : Progress) → IsSound shape run → IsSound shape (committed shape operations run)
 sound_commit shape operations run sound =
-    let changes = tx_changes shape operations run in
-    let stays = stays_at_commit shape run.opened (run.drawn + 1) changes run.journal in
-    let more = own_more shape run.journal (Client run.opened (run.drawn + 1) changes ∷ run.journal) (λ m is. stays m sound.order is) in
-    record {
-      order = (refl, sound.order);
-      some = sound.some;
-      sent = all_joined (λ (s : Sent). IsOwn shape (Client run.opened (run.drawn + 1) changes ∷ run.journal) s.message) run.sent (map (sent_by (owner_in run.nodes)) (tx_messages shape operations run))
-          (all_more (λ (s : Sent). IsOwn shape run.journal s.message) (λ (s : Sent). IsOwn shape (Client run.opened (run.drawn + 1) changes ∷ run.journal) s.message) run.sent (λ s own. more s.message own) sound.sent)
-          (own_sent shape (Client run.opened (run.drawn + 1) changes ∷ run.journal) (owner_in run.nodes) (tx_messages shape operations run) (parts_are_messages shape run.opened (run.drawn + 1) changes run.journal sound.some));
-      received = all_more (IsOwn shape run.journal) (IsOwn shape (Client run.opened (run.drawn + 1) changes ∷ run.journal)) run.received more sound.received;
-      last = sound.last;
-      nodes = sound.nodes;
-      written = sound.written ∙ ap length (sym (worth_within shape run.journal (Client run.opened (run.drawn + 1) changes ∷ run.journal) run.opened (upto run.last run.journal)
-          (filter_below run.opened (λ e. nat_le e run.last) (closed_epochs run.journal) (closed_all_below run.opened run.journal sound.order))
-          (λ e l. body_of_other shape e (Client run.opened (run.drawn + 1) changes) run.journal (let m = l in λ q. absurd (omega arith)))));
-    }
+    let entry = tx_entry shape operations run in
+    sound_drawn shape (entered shape entry run) (run.drawn + 1) (sound_entered shape entry run refl (tx_authors shape operations run) sound)
 
 -- a close, before any message is sent
 sound_only_closed : (shape : Shape) (gci : Bool) (run : Progress) → IsSound shape run → IsSound shape (only_closed gci run)
@@ -215,6 +252,8 @@ sound_only_closed shape gci run sound =
     let more = own_more shape run.journal (Closed run.opened ∷ run.journal) (λ m is. stays_at_close shape run.opened run.journal m sound.order is) in
     record {
       order = (epoch_rises gci run.opened, sound.order);
+      near = (let near = sound.near in let next = epoch_near gci run.opened in let more = length-append (closed_epochs run.journal) (run.opened ∷ []) in omega arith);
+      authored = (tt, sound.authored);
       some = sound.some;
       sent = all_more (λ (s : Sent). IsOwn shape run.journal s.message) (λ (s : Sent). IsOwn shape (Closed run.opened ∷ run.journal) s.message) run.sent (λ s own. more s.message own) sound.sent;
       received = all_more (IsOwn shape run.journal) (IsOwn shape (Closed run.opened ∷ run.journal)) run.received more sound.received;
@@ -248,9 +287,9 @@ close_own shape gci run group below =
     let after = only_closed gci run in
     let buckets = numbers_in run.nodes group in
     let within = buckets_within shape run group below in
-    all_joined (λ (s : Sent). IsOwn shape after.journal s.message) _ (flat_map (λ bucket. sent_again shape after bucket bucket) (filter (returns run.nodes (needed_of shape after)) buckets))
+    all_joined (λ (s : Sent). IsOwn shape after.journal s.message) _ (flat_map (λ bucket. sent_again shape after bucket bucket) (filter (returns run.nodes (needed_of after)) buckets))
     (all_mapped (λ (s : Sent). IsOwn shape after.journal s.message) (λ bucket. sent_by (owner_in run.nodes) (done_message shape run.opened bucket run.journal)) buckets (dones buckets within))
-    (again_own shape after (λ bucket. bucket) (filter (returns run.nodes (needed_of shape after)) buckets) (filter_below shape.buckets (returns run.nodes (needed_of shape after)) buckets within))
+    (again_own shape after (λ bucket. bucket) (filter (returns run.nodes (needed_of after)) buckets) (filter_below shape.buckets (returns run.nodes (needed_of after)) buckets within))
   where
     dones : (buckets : List ℕ) → AllByRecursion (λ bucket. bucket < shape.buckets) buckets → AllByRecursion (λ bucket. IsOwn shape (Closed run.opened ∷ run.journal) (done_message shape run.opened bucket run.journal)) buckets
     dones [] all = tt
@@ -264,4 +303,4 @@ sound_close shape gci run sound =
     let sends : IsSound shape (record after { sent = run.sent ++ flat_map (sent_at_close shape run after) groups }) =
     sound_sent shape after (flat_map (sent_at_close shape run after) groups) (sound_only_closed shape gci run sound)
     (all_flat (λ (s : Sent). IsOwn shape after.journal s.message) (sent_at_close shape run after) groups (all_below (shape.buckets / run.nodes.replicas) (λ group below. close_own shape gci run group below))) in
-    sound_nodes shape (record after { sent = run.sent ++ flat_map (sent_at_close shape run after) groups }) (with_returns (needed_of shape after) run.nodes) run.lost sends (with_returns_stays shape.buckets (needed_of shape after) run.nodes sound.nodes)
+    sound_nodes shape (record after { sent = run.sent ++ flat_map (sent_at_close shape run after) groups }) (with_returns (needed_of after) run.nodes) run.lost sends (with_returns_stays shape.buckets (needed_of after) run.nodes sound.nodes)

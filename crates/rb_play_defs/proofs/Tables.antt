@@ -14,10 +14,9 @@ use Rattle.std.proofs.lemmas.List.Kept.{IsStrictlySortedBy-filter}
 use Rattle.std.proofs.lemmas.Map.Keys.{sorted_from_strictly_increasing}
 use Rattle.std.proofs.lemmas.Map.Lookups.{btree_set_from_contains, exact_unsigned}
 use Rattle.std.proofs.lemmas.Map.Views.{All-insert_key, any-filter_same, list_any-from_Contains, tells_apart}
-use Rattle.rb_base.specs.declared.site.SiteId.{SiteId}
 use Rattle.rb_base.specs.declared.row.Row.{Row}
 use Rattle.rb_base.specs.declared.change.Change.{Change}
-use Rattle.rb_journal_defs.specs.Journal.{Journal, changes_of, names_key, of_key, row_left, row_at}
+use Rattle.rb_journal_defs.specs.Journal.{Journal, row_changes_of, names_key, of_key, row_left, row_at}
 use Rattle.rb_journal_defs.specs.Table.{keys_named, keys_of_table, rows_of_table, IsTable}
 
 -- keys in strictly ascending order
@@ -90,23 +89,23 @@ left_by_any table key (change ∷ changes) row some = go (names_key table key ch
     go false some more = more some
 
 -- if a journal leaves a row, one of its changes names the key
-at_by_any : (site : SiteId) (table key : ℕ) (journal : Journal) → IsSome (row_at site table key journal) → list_any (names_key table key) (flat_map (changes_of site) journal) ≡ true
-at_by_any site table key [] some = some
-at_by_any site table key (entry ∷ older) some =
-    list_any-append (names_key table key) (changes_of site entry) (flat_map (changes_of site) older)
-    ∙ go (list_any (names_key table key) (changes_of site entry)) (left_by_any table key (changes_of site entry) (row_at site table key older) some) (at_by_any site table key older)
+at_by_any : (table key : ℕ) (journal : Journal) → IsSome (row_at table key journal) → list_any (names_key table key) (flat_map row_changes_of journal) ≡ true
+at_by_any table key [] some = some
+at_by_any table key (entry ∷ older) some =
+    list_any-append (names_key table key) (row_changes_of entry) (flat_map row_changes_of older)
+    ∙ go (list_any (names_key table key) (row_changes_of entry)) (left_by_any table key (row_changes_of entry) (row_at table key older) some) (at_by_any table key older)
   where
-    go : (b : Bool) → (b || is_some (row_at site table key older)) ≡ true → (IsSome (row_at site table key older) → list_any (names_key table key) (flat_map (changes_of site) older) ≡ true) → (b || list_any (names_key table key) (flat_map (changes_of site) older)) ≡ true
+    go : (b : Bool) → (b || is_some (row_at table key older)) ≡ true → (IsSome (row_at table key older) → list_any (names_key table key) (flat_map row_changes_of older) ≡ true) → (b || list_any (names_key table key) (flat_map row_changes_of older)) ≡ true
     go true some more = refl
     go false some more = more some
 
 -- a key that has a row is among the keys of the table
-is_complete : (site : SiteId) (table : ℕ) (journal : Journal) (key : ℕ) → IsSome (row_at site table key journal) → is_among key (keys_of_table site table journal) ≡ true
-is_complete site table journal key some =
-    let changes = flat_map (changes_of site) journal in
+is_complete : (table : ℕ) (journal : Journal) (key : ℕ) → IsSome (row_at table key journal) → is_among key (keys_of_table table journal) ≡ true
+is_complete table journal key some =
+    let changes = flat_map row_changes_of journal in
     let tests : eq_by_cmp nat_cmp key ≡ (λ other. other == key) = λ i other. (sym (unsigned_ties key other) ∙ nat_eq_equiv.symm key other) i in
-    ap (λ (test : ℕ → Bool). list_any test (keys_of_table site table journal)) tests ∙ any_ordered (λ other. other == key) (keys_named table changes) []
-    ∙ ap (λ (b : Bool). b || false) (sym (any_named table key changes) ∙ at_by_any site table key journal some)
+    ap (λ (test : ℕ → Bool). list_any test (keys_of_table table journal)) tests ∙ any_ordered (λ other. other == key) (keys_named table changes) []
+    ∙ ap (λ (b : Bool). b || false) (sym (any_named table key changes) ∙ at_by_any table key journal some)
 
 -- the keys among these that have a row
 abbrev with_row : (ℕ → Option Row) → List ℕ → List ℕ
@@ -141,10 +140,10 @@ same_rows row_of xs ys in_order_xs in_order_ys in_xs in_ys =
 
 -- if rows are those of the table in which each key has the row that the journal leaves, they are
 -- the table's rows
-pub table_is : (site : SiteId) (table : ℕ) (journal : Journal) (row_of : ℕ → Option Row) (rows : List Row) → ((key : ℕ) → row_of key ≡ row_at site table key journal) → IsTable row_of rows → rows ≡ rows_of_table site table journal
+pub table_is : (table : ℕ) (journal : Journal) (row_of : ℕ → Option Row) (rows : List Row) → ((key : ℕ) → row_of key ≡ row_at table key journal) → IsTable row_of rows → rows ≡ rows_of_table table journal
 unfolding rows_of_table IsStrictlySortedBy
-table_is site table journal row_of rows same is =
-    is.listed ∙ same_rows row_of is.keys (keys_of_table site table journal) (sorted_from_strictly_increasing is.keys is.rising) (all_ordered (keys_named table (flat_map (changes_of site) journal)) [] tt)
+table_is table journal row_of rows same is =
+    is.listed ∙ same_rows row_of is.keys (keys_of_table table journal) (sorted_from_strictly_increasing is.keys is.rising) (all_ordered (keys_named table (flat_map row_changes_of journal)) [] tt)
     (λ key some. list_any-from_Contains (eq_by_cmp_equiv nat_cmp_total) key is.keys (is.complete key some))
-    (λ key some. is_complete site table journal key (subst (λ (row : Option Row). IsSome row) (same key) some))
-    ∙ (λ i. filter_map (λ key. same key i) (keys_of_table site table journal))
+    (λ key some. is_complete table journal key (subst (λ (row : Option Row). IsSome row) (same key) some))
+    ∙ (λ i. filter_map (λ key. same key i) (keys_of_table table journal))

@@ -17,7 +17,7 @@ use Rattle.rb_journal_defs.proofs.Order.{following, upto, upto_next, closed_cut,
 use Rattle.rb_message_defs.specs.Received.{is_whole, answer_to}
 use Rattle.rb_message_defs.specs.Taken.{taken_epochs}
 use Rattle.rb_message_defs.proofs.Assembly.{IsFedFrom, taken_rest}
-use Rattle.rb_play_defs.specs.Step.{Progress, unchanged, delivered_message, deliver_step, answer_outcome, fed_by, takeable, worth_logging, injected, written_bodies, with_taken, after_delivery, all_delivered}
+use Rattle.rb_play_defs.specs.Step.{Progress, unchanged, delivered_message, deliver_step, answer_outcome, fed_by, takeable, worth_logging, with_all_taken, injected, last_written, written_bodies, with_taken, after_delivery, all_delivered}
 use Rattle.rb_play_defs.specs.Sound.{IsOwn, IsSound}
 
 pub of_sent : {X : Type 0} → (P : X → Type 0) (xs : List X) (k : ℕ) (x : X) → AllByRecursion P xs → slice_get xs k ≡ Some x → P x
@@ -27,7 +27,7 @@ of_sent P (y ∷ xs) (suc k) x all same = of_sent P xs k x all.1 same
 
 -- a delivery
 pub sound_delivered : (shape : Shape) (place : ℕ) (run : Progress) (sent : Sent) → IsSound shape run → slice_get run.sent place ≡ Some sent → IsSound shape (delivered_message place sent.message run)
-sound_delivered shape place run sent sound there = record { order = sound.order; some = sound.some; sent = sound.sent; last = sound.last; nodes = sound.nodes; written = sound.written; received = (of_sent (λ (s : Sent). IsOwn shape run.journal s.message) run.sent place sent sound.sent there, sound.received) }
+sound_delivered shape place run sent sound there = record { order = sound.order; near = sound.near; authored = sound.authored; some = sound.some; sent = sound.sent; last = sound.last; nodes = sound.nodes; written = sound.written; received = (of_sent (λ (s : Sent). IsOwn shape run.journal s.message) run.sent place sent sound.sent there, sound.received) }
 
 pub sound_deliver : (shape : Shape) (place : ℕ) (run : Progress) → IsSound shape run → IsSound shape (deliver_step shape place run).run
 unfolding deliver_step
@@ -68,6 +68,8 @@ sound_taken shape run e rest sound same =
     let upto_e = upto_next run.opened run.last e run.journal front.0 sound.order front.1 in
     record {
       order = sound.order;
+      near = sound.near;
+      authored = sound.authored;
       some = sound.some;
       sent = sound.sent;
       received = sound.received;
@@ -90,9 +92,9 @@ unwrap_last e d (x ∷ rest) = unwrap_any x d e rest
     unwrap_any x a b [] = refl
     unwrap_any x a b (y ∷ rest) = unwrap_any y a b rest
 
--- an `inject` event that takes one epoch or more takes the first one and then the others
-pub injected_more : (shape : Shape) (run : Progress) (e : ℕ) (rest : List ℕ) → IsSound shape run → takeable shape run ≡ e ∷ rest → injected shape run ≡ injected shape (with_taken shape run e)
-injected_more shape run e rest sound same =
+-- the injector that takes one epoch or more takes the first one and then the others
+pub taken_more : (shape : Shape) (run : Progress) (e : ℕ) (rest : List ℕ) → IsSound shape run → takeable shape run ≡ e ∷ rest → with_all_taken shape run ≡ with_all_taken shape (with_taken shape run e)
+taken_more shape run e rest sound same =
     let later = takeable_rest shape run e rest sound same in
     let lasts : unwrap_or (last_or None (takeable shape run)) run.last ≡ unwrap_or (last_or None (takeable shape (with_taken shape run e))) e =
     ap (λ (es : List ℕ). unwrap_or (last_or None es) run.last) same ∙ unwrap_last e run.last rest ∙ sym (ap (λ (es : List ℕ). unwrap_or (last_or None es) e) later) in
@@ -103,18 +105,26 @@ injected_more shape run e rest sound same =
     ap (λ (l : ℕ). record run { last = l; written = run.written + length (worth_logging shape run.journal (takeable shape run)) }) lasts
     ∙ ap (λ (w : ℕ). record run { last = unwrap_or (last_or None (takeable shape (with_taken shape run e))) e; written = w }) counts
 
-pub injected_end : (shape : Shape) (run : Progress) → takeable shape run ≡ [] → injected shape run ≡ run
-injected_end shape run none =
+pub taken_end : (shape : Shape) (run : Progress) → takeable shape run ≡ [] → with_all_taken shape run ≡ run
+taken_end shape run none =
     let counts : run.written + length (worth_logging shape run.journal (takeable shape run)) ≡ run.written = let z : length (worth_logging shape run.journal (takeable shape run)) ≡ 0 = ap (λ (es : List ℕ). length (worth_logging shape run.journal es)) none in omega arith in
     ap (λ (l : ℕ). record run { last = l; written = run.written + length (worth_logging shape run.journal (takeable shape run)) }) (ap (λ (es : List ℕ). unwrap_or (last_or None es) run.last) none)
     ∙ ap (λ (w : ℕ). record run { written = w }) counts
 
+-- the site stays sound when its epochs are taken
+pub sound_all_taken : (shape : Shape) (run : Progress) (es : List ℕ) → IsSound shape run → takeable shape run ≡ es → IsSound shape (with_all_taken shape run)
+sound_all_taken shape run [] sound same = subst (IsSound shape) (sym (taken_end shape run same)) sound
+sound_all_taken shape run (e ∷ rest) sound same =
+    subst (IsSound shape) (sym (taken_more shape run e rest sound same))
+    (sound_all_taken shape (with_taken shape run e) rest (sound_taken shape run e rest sound same) (takeable_rest shape run e rest sound same))
+
+-- another acknowledged epoch changes nothing of this
+pub sound_acknowledged : (shape : Shape) (run : Progress) (acknowledged : ℕ) → IsSound shape run → IsSound shape (record run { acknowledged = acknowledged })
+sound_acknowledged shape run acknowledged sound = record { order = sound.order; near = sound.near; authored = sound.authored; some = sound.some; sent = sound.sent; received = sound.received; last = sound.last; nodes = sound.nodes; written = sound.written }
+
 -- the site stays sound after an `inject` event
-pub sound_injected : (shape : Shape) (run : Progress) (es : List ℕ) → IsSound shape run → takeable shape run ≡ es → IsSound shape (injected shape run)
-sound_injected shape run [] sound same = subst (IsSound shape) (sym (injected_end shape run same)) sound
-sound_injected shape run (e ∷ rest) sound same =
-    subst (IsSound shape) (sym (injected_more shape run e rest sound same))
-    (sound_injected shape (with_taken shape run e) rest (sound_taken shape run e rest sound same) (takeable_rest shape run e rest sound same))
+pub sound_injected : (shape : Shape) (run : Progress) → IsSound shape run → IsSound shape (injected shape run)
+sound_injected shape run sound = sound_acknowledged shape (with_all_taken shape run) (last_written shape (with_all_taken shape run)) (sound_all_taken shape run (takeable shape run) sound refl)
 
 -- the logged bodies are those of the epochs up to the last taken one that have something to log
 pub written_is : (shape : Shape) (run : Progress) → IsSound shape run → written_bodies shape run ≡ map (λ epoch. body_of shape epoch run.journal) (worth_logging shape run.journal (upto run.last run.journal))

@@ -10,7 +10,7 @@ use Rattle.rb_base.specs.declared.script.Op.TheVariants.{Ins, Upd, Put, Del}
 use Rattle.rb_base.specs.declared.script.ClientOp.{ClientOp}
 use Rattle.rb_log_defs.specs.Table.{columns_of}
 use Rattle.rb_log_defs.specs.Fits.{FitsColumns, Fits}
-use Rattle.rb_journal_defs.specs.Journal.{Journal, changes_of}
+use Rattle.rb_journal_defs.specs.Journal.{Journal, row_changes_of}
 use Rattle.rb_journal_defs.specs.Body.{Shape}
 use Rattle.rb_journal_defs.specs.Table.{key_in}
 
@@ -30,9 +30,9 @@ pub record FitsTables (tables : List Mapped) (change : Change) : Type 0 where
   pub before : IfSome change.before (λ row. key_in row.values ≡ Some change.key)
   pub after : IfSome change.after (λ row. key_in row.values ≡ Some change.key)
 
--- all changes of a journal fit the site's tables
+-- all changes that a journal makes to rows fit the site's tables
 abbrev pub JournalFits : Shape → Journal → Type 0
-JournalFits shape journal = AllByRecursion (λ entry. AllByRecursion (FitsTables shape.tables) (changes_of shape.site entry)) journal
+JournalFits shape journal = AllByRecursion (λ entry. AllByRecursion (FitsTables shape.tables) (row_changes_of entry)) journal
 
 -- an operation of this kind has the row that it needs, and the row fits these columns
 abbrev pub PutsRow : Op → List Column → (key : ℕ) → Option Row → Type 0

@@ -3,4 +3,3 @@ pub mod Sound
 pub mod Fitting
 pub mod Play
 pub mod UnfinishedLog
-pub mod Worked

@@ -1,7 +1,7 @@
 -- What each event does at a site, and its outcome.
-use Rattle.std.specs.Prelude.{ℕ, ◌+◌, ◌*◌, ◌/◌, Bool, true, false, if◌then◌else◌, List, [], ◌∷◌, ◌++◌, length, filter, map, fold, count_by, Option, Some, None, unwrap_or}
-use Rattle.std.specs.List.{flat_map, last_or, scan, slice_get}
-use Rattle.std.specs.Option.{option_map_or}
+use Rattle.std.specs.Prelude.{ℕ, ◌+◌, ◌*◌, ◌/◌, Bool, true, false, if◌then◌else◌, List, [], ◌∷◌, ◌++◌, length, filter, filter_map, map, fold, count_by, Option, Some, None, unwrap_or}
+use Rattle.std.specs.List.{flat_map, last_or, slice_get}
+use Rattle.std.specs.Option.{option_map, option_map_or}
 use Rattle.rb_base.specs.declared.row.Row.{Row}
 use Rattle.rb_base.specs.declared.change.Change.{Change}
 use Rattle.rb_base.specs.declared.body.EpochBody.{EpochBody}
@@ -11,7 +11,7 @@ use Rattle.rb_base.specs.declared.script.ClientOp.{ClientOp}
 use Rattle.rb_base.specs.declared.outcome.Outcome.{Outcome}
 use Rattle.rb_base.specs.declared.outcome.Outcome.TheVariants as outcomes
 use Rattle.rb_base.specs.Site.{server_of}
-use Rattle.rb_journal_defs.specs.Journal.{Client, Closed, Journal, row_at}
+use Rattle.rb_journal_defs.specs.Journal.{Entry, Client, Closed, Journal, changes_of, row_at}
 use Rattle.rb_journal_defs.specs.Body.{Shape, changes_in, body_of, numbers_below, has_something_to_log, logged_bodies}
 use Rattle.rb_journal_defs.specs.Transaction.{Refusal, RowTwice, KeyThere, NoKey, refusal_of, changes_made}
 use Rattle.rb_journal_defs.specs.Clock.{first_epoch, epoch_after}
@@ -20,7 +20,7 @@ use Rattle.rb_message_defs.specs.declared.answers.Received.TheVariants as answer
 use Rattle.rb_message_defs.specs.declared.answers.Missing.{Missing}
 use Rattle.rb_message_defs.specs.Message.{parts_sent, done_message, sent_by}
 use Rattle.rb_message_defs.specs.Nodes.{Nodes, nodes_at_first, node_at, owner_in, needed_epoch, unacknowledged, sent_from, group_of, successor_of, owned_by, with_failure, with_restart, with_owner, returns, with_returns, numbers_in, waiting_places}
-use Rattle.rb_message_defs.specs.Received.{Fed, answer_to, missing_of}
+use Rattle.rb_message_defs.specs.Received.{Fed, answer_to, answers_to, missing_of}
 use Rattle.rb_message_defs.specs.Taken.{taken_epochs}
 use Rattle.rb_play_defs.specs.declared.event.SiteEvent.{SiteEvent}
 use Rattle.rb_play_defs.specs.declared.event.SiteEvent.TheVariants.{Tx, Close, Deliver, DeliverAll, Inject, Fail, Restart, Resend, Injector}
@@ -28,7 +28,8 @@ use Rattle.rb_play_defs.specs.declared.event.SiteEvent.TheVariants.{Tx, Close, D
 -- the state of a site in a run: its journal, its open epoch, and the number of transactions so far;
 -- all messages that its nodes sent, and the places of those that were delivered; the messages that
 -- the event buffer received, the newest first, the last epoch that was taken from it, and the
--- number of logged bodies; the site's nodes; and the first group that it lost, with the epoch that
+-- number of logged bodies; the acknowledged epoch, which is the greatest written one that an
+-- `inject` told the nodes; the site's nodes; and the first group that it lost, with the epoch that
 -- was needed at that time
 pub record Progress : Type 0 where
   pub journal : Journal
@@ -39,6 +40,7 @@ pub record Progress : Type 0 where
   pub received : List Message
   pub last : ℕ
   pub written : ℕ
+  pub acknowledged : ℕ
   pub nodes : Nodes
   pub lost : Option (ℕ × ℕ)
 
@@ -53,6 +55,7 @@ beginning groups replicas = record {
   received = [];
   last = 0;
   written = 0;
+  acknowledged = 0;
   nodes = nodes_at_first groups replicas;
   lost = None;
 }
@@ -67,8 +70,8 @@ abbrev pub unchanged : Progress → Outcome → StepResult
 unchanged run outcome = record { run = run; outcome = outcome }
 
 -- the row of each key of each table
-abbrev pub rows_of : Shape → Progress → ℕ → ℕ → Option Row
-rows_of shape run table key = row_at shape.site table key run.journal
+abbrev pub rows_of : Progress → ℕ → ℕ → Option Row
+rows_of run table key = row_at table key run.journal
 
 -- the outcome of a refused transaction
 abbrev pub refused : Refusal → Outcome
@@ -78,21 +81,29 @@ refused (NoKey number) = outcomes.NoKey number
 
 -- the changes of a client's transaction, if it is accepted
 abbrev pub tx_changes : Shape → List ClientOp → Progress → List Change
-tx_changes shape operations run = changes_made (rows_of shape run) (server_of shape.site) (run.drawn + 1) operations
+tx_changes shape operations run = changes_made (rows_of run) (server_of shape.site) (run.drawn + 1) operations
 
--- the messages that the commit of this transaction sends
-abbrev pub tx_messages : Shape → List ClientOp → Progress → List Message
-tx_messages shape operations run =
-    parts_sent shape.buckets run.opened (changes_in shape.site run.opened run.journal) (tx_changes shape operations run)
+-- the messages that a new entry of the open epoch sends: one for each of its changes
+abbrev pub messages_entered : Shape → Entry → Progress → List Message
+messages_entered shape entry run = parts_sent shape.buckets run.opened (changes_in shape.site run.opened run.journal) (changes_of shape.site entry)
 
--- the site after the commit: the transaction is in the journal, and the owners of the buckets have
--- sent its changes
-abbrev pub committed : Shape → List ClientOp → Progress → Progress
-committed shape operations run = record run {
-  journal = Client run.opened (run.drawn + 1) (tx_changes shape operations run) ∷ run.journal;
-  drawn = run.drawn + 1;
-  sent = run.sent ++ map (sent_by (owner_in run.nodes)) (tx_messages shape operations run);
+-- the site after a new entry of its open epoch: the entry is in the journal, and the owners of the
+-- buckets have sent its changes
+abbrev pub entered : Shape → Entry → Progress → Progress
+entered shape entry run = record run {
+  journal = entry ∷ run.journal;
+  sent = run.sent ++ map (sent_by (owner_in run.nodes)) (messages_entered shape entry run);
 }
+
+-- the entry of a client's transaction
+abbrev pub tx_entry : Shape → List ClientOp → Progress → Entry
+tx_entry shape operations run = Client run.opened (run.drawn + 1) (tx_changes shape operations run)
+
+-- the site after the commit of a client's transaction
+abbrev pub committed : Shape → List ClientOp → Progress → Progress
+committed shape operations run =
+    let after = entered shape (tx_entry shape operations run) run in
+    record after { drawn = run.drawn + 1 }
 
 -- the outcome of an accepted transaction
 abbrev pub commit_outcome : Progress → Outcome
@@ -102,7 +113,7 @@ commit_outcome run =
 -- a client's transaction: it is either refused, which changes nothing, or committed
 unfoldable pub tx_step : Shape → List ClientOp → Progress → StepResult
 tx_step shape operations run =
-    option_map_or (λ refusal. unchanged run (refused refusal)) (refusal_of (rows_of shape run) operations)
+    option_map_or (λ refusal. unchanged run (refused refusal)) (refusal_of (rows_of run) operations)
     (record { run = committed shape operations run; outcome = commit_outcome (committed shape operations run) })
 
 -- the epoch of the last body, or 0
@@ -113,17 +124,17 @@ last_epoch bodies = unwrap_or (last_or None (map (λ body. body.epoch.0) bodies)
 abbrev pub written_bodies : Shape → Progress → List EpochBody
 written_bodies shape run = logged_bodies shape run.written run.journal
 
--- the acknowledged epoch: the last one that is logged, or 0
-abbrev pub acknowledged_epoch : Shape → Progress → ℕ
-acknowledged_epoch shape run = last_epoch (written_bodies shape run)
+-- the last written epoch: the last one that is logged, or 0
+abbrev pub last_written : Shape → Progress → ℕ
+last_written shape run = last_epoch (written_bodies shape run)
 
 -- the needed epoch of a site
-abbrev pub needed_of : Shape → Progress → ℕ
-needed_of shape run = needed_epoch (acknowledged_epoch shape run) run.opened run.journal
+abbrev pub needed_of : Progress → ℕ
+needed_of run = needed_epoch run.acknowledged run.opened run.journal
 
 -- what a node resends of a bucket: all its messages that are not acknowledged
 abbrev pub sent_again : Shape → Progress → (sender bucket : ℕ) → List Sent
-sent_again shape run sender bucket = sent_from sender (unacknowledged shape (acknowledged_epoch shape run) run.opened run.journal bucket)
+sent_again shape run sender bucket = sent_from sender (unacknowledged shape run.acknowledged run.opened run.journal bucket)
 
 -- the site with its open epoch closed, before any message is sent
 abbrev pub only_closed : (gci : Bool) → Progress → Progress
@@ -134,7 +145,7 @@ only_closed gci run = record run { journal = Closed run.opened ∷ run.journal; 
 abbrev pub sent_at_close : Shape → (before after : Progress) → (group : ℕ) → List Sent
 sent_at_close shape before after group =
     map (λ bucket. sent_by (owner_in before.nodes) (done_message shape before.opened bucket before.journal)) (numbers_in before.nodes group)
-    ++ flat_map (λ bucket. sent_again shape after bucket bucket) (filter (returns before.nodes (needed_of shape after)) (numbers_in before.nodes group))
+    ++ flat_map (λ bucket. sent_again shape after bucket bucket) (filter (returns before.nodes (needed_of after)) (numbers_in before.nodes group))
 
 -- the site after its open epoch closed: each group has sent its messages, the buckets that can
 -- return are at their home nodes, and the next epoch is open
@@ -143,7 +154,7 @@ closed shape gci run =
     let after = only_closed gci run in
     record after {
       sent = run.sent ++ flat_map (sent_at_close shape run after) (numbers_below (shape.buckets / run.nodes.replicas));
-      nodes = with_returns (needed_of shape after) run.nodes;
+      nodes = with_returns (needed_of after) run.nodes;
     }
 
 -- a close and its outcome
@@ -170,15 +181,15 @@ takeover_step shape node successor run = record {
 -- the failure of a node in whose group no other node covers: the group is lost
 abbrev pub loss_step : Shape → (node : ℕ) → Progress → StepResult
 loss_step shape node run = record {
-  run = record run { nodes = with_failure node (length run.sent) run.nodes; lost = Some (group_of run.nodes node, needed_of shape run) };
-  outcome = outcomes.Lost (group_of run.nodes node) (record { 0 = needed_of shape run });
+  run = record run { nodes = with_failure node (length run.sent) run.nodes; lost = Some (group_of run.nodes node, needed_of run) };
+  outcome = outcomes.Lost (group_of run.nodes node) (record { 0 = needed_of run });
 }
 
 -- the failure of a node, if the node is up
 unfoldable pub fail_step : Shape → (node : ℕ) → Progress → StepResult
 fail_step shape node run =
     if (node_at run.nodes node).up
-    then option_map_or (λ successor. takeover_step shape node successor run) (successor_of run.nodes (needed_of shape run) node) (loss_step shape node run)
+    then option_map_or (λ successor. takeover_step shape node successor run) (successor_of run.nodes (needed_of run) node) (loss_step shape node run)
     else unchanged run (outcomes.NodeDown node)
 
 -- the restart of a node, if the node is down: its buffer is empty, and begins with the epoch after
@@ -207,7 +218,7 @@ sent_to_injector shape run = option_map_or (λ loss. []) run.lost (sent_by_owner
 abbrev pub with_new_injector : Shape → Progress → Progress
 with_new_injector shape run = record run {
   received = [];
-  last = acknowledged_epoch shape run;
+  last = last_written shape run;
   sent = run.sent ++ sent_to_injector shape run;
 }
 
@@ -215,7 +226,7 @@ with_new_injector shape run = record run {
 unfoldable pub injector_step : Shape → Progress → StepResult
 injector_step shape run = record {
   run = with_new_injector shape run;
-  outcome = outcomes.Recovered (record { 0 = acknowledged_epoch shape run }) (length (with_new_injector shape run).sent);
+  outcome = outcomes.Recovered (record { 0 = last_written shape run }) (length (with_new_injector shape run).sent);
 }
 
 -- an event that a site with a lost group refuses
@@ -260,9 +271,9 @@ after_delivery shape run place = (deliver_step shape place run).run
 abbrev pub all_delivered : Shape → List ℕ → Progress → Progress
 all_delivered shape places run = fold (after_delivery shape) run places
 
--- the outcome of each of these deliveries
-abbrev pub delivery_outcomes : Shape → List ℕ → Progress → List Outcome
-delivery_outcomes shape places run = scan (after_delivery shape) (λ before place. (deliver_step shape place before).outcome) run places
+-- the messages at these places
+abbrev pub messages_at : List Sent → (places : List ℕ) → List Message
+messages_at sent places = filter_map (λ place. option_map (λ message. message.message) (slice_get sent place)) places
 
 -- how many messages of a delivery were kept, known and old
 pub record Answers : Type 0 where
@@ -270,21 +281,21 @@ pub record Answers : Type 0 where
   pub known : ℕ
   pub old : ℕ
 
-abbrev pub is_kept : Outcome → Bool
-is_kept outcomes.Kept = true
-is_kept outcome = false
+abbrev pub is_kept : Received → Bool
+is_kept answers.Kept = true
+is_kept answer = false
 
-abbrev pub is_known : Outcome → Bool
-is_known outcomes.Known = true
-is_known outcome = false
+abbrev pub is_known : Received → Bool
+is_known answers.Known = true
+is_known answer = false
 
-abbrev pub is_old : Outcome → Bool
-is_old outcomes.Old = true
-is_old outcome = false
+abbrev pub is_old : Received → Bool
+is_old answers.Old = true
+is_old answer = false
 
--- the counts for these outcomes
-abbrev pub answers_in : List Outcome → Answers
-answers_in outcomes = record { kept = count_by is_kept outcomes; known = count_by is_known outcomes; old = count_by is_old outcomes }
+-- how often each answer stands in a list
+abbrev pub counts_of : List Received → Answers
+counts_of received = record { kept = count_by is_kept received; known = count_by is_known received; old = count_by is_old received }
 
 -- the delivery of every message that was never delivered and whose sender has not failed since
 pub record Delivery : Type 0 where
@@ -294,7 +305,7 @@ pub record Delivery : Type 0 where
 unfoldable pub delivery_of_all : Shape → Progress → Delivery
 delivery_of_all shape run = record {
   run = all_delivered shape (undelivered run) run;
-  answers = answers_in (delivery_outcomes shape (undelivered run) run);
+  answers = counts_of (answers_to (fed_by shape run) (messages_at run.sent (undelivered run)));
 }
 
 -- a delivery of all messages and its outcome
@@ -315,13 +326,21 @@ worth_logging shape journal epochs = filter (λ epoch. has_something_to_log (bod
 abbrev pub with_taken : Shape → Progress → (epoch : ℕ) → Progress
 with_taken shape run epoch = record run { last = epoch; written = run.written + length (worth_logging shape run.journal (epoch ∷ [])) }
 
--- the site after an `inject` event: the epochs up to the first one that is not whole are taken, and
--- those with something to log are logged
-abbrev pub injected : Shape → Progress → Progress
-injected shape run = record run {
+-- the site after the epochs up to the first one that is not whole were taken, and those with
+-- something to log were logged
+abbrev pub with_all_taken : Shape → Progress → Progress
+with_all_taken shape run = record run {
   last = unwrap_or (last_or None (takeable shape run)) run.last;
   written = run.written + length (worth_logging shape run.journal (takeable shape run));
 }
+
+-- the site after its nodes are told the greatest written epoch
+abbrev pub with_acknowledged : Shape → Progress → Progress
+with_acknowledged shape run = record run { acknowledged = last_written shape run }
+
+-- the site after an `inject` event
+abbrev pub injected : Shape → Progress → Progress
+injected shape run = with_acknowledged shape (with_all_taken shape run)
 
 -- the result of an `inject` event: the number of epochs that it logged, the last logged epoch, and
 -- the first message that is missing of the next epoch
@@ -340,7 +359,7 @@ injection_of shape run =
     let after = injected shape run in record {
       run = after;
       count = length (worth_logging shape run.journal (takeable shape run));
-      written = last_epoch (written_bodies shape after);
+      written = last_written shape after;
       missing = missing_after shape after;
     }
 

@@ -12,8 +12,8 @@ pub enum SiteEvent {
     /// Each message that was never delivered, and whose sender has not failed since, reaches the
     /// event buffer, in the order of the Sent list.
     DeliverAll,
-    /// The injector takes the closed epochs in order, up to the first that is not whole. It logs
-    /// those that have something to log.
+    /// The injector takes the closed epochs in order, and stops before the first that is not whole.
+    /// It logs those that have something to log.
     Inject,
     /// A data node fails.
     Fail(u32),

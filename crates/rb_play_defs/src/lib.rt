@@ -7,6 +7,5 @@
 
 mod event;
 pub mod law;
-pub mod worked;
 
 pub use event::SiteEvent;

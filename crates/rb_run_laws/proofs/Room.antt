@@ -1,5 +1,5 @@
 -- The numbers in the changes and the rows of a journal have 64 bits.
-use Rattle.std.proofs.Common.{ℕ, ◌<◌, ◌^◌, Bool, true, false, cond, List, [], ◌∷◌, map, sym, subst}
+use Rattle.std.proofs.Common.{ℕ, ◌<◌, ◌^◌, Bool, true, false, cond, List, [], ◌∷◌, ◌++◌, map, sym, subst}
 use Rattle.std.specs.Prelude.{◌==◌, Option, Some, None, unwrap_or, if◌then◌else◌}
 use Rattle.std.specs.List.{AllByRecursion, flat_map, last_or}
 use Rattle.std.proofs.lemmas.List.Elements.{All-from_recursion}
@@ -14,7 +14,8 @@ use Rattle.rb_base.specs.declared.change.Kind.TheVariants.{Insert, Update, Remov
 use Rattle.rb_base.specs.declared.script.Op.{Op}
 use Rattle.rb_base.specs.declared.script.Op.TheVariants.{Ins, Upd, Put, Del}
 use Rattle.rb_base.specs.declared.script.ClientOp.{ClientOp}
-use Rattle.rb_journal_defs.specs.Journal.{Journal, changes_of, epoch_of, names_key, of_key, row_after_kind, row_after, row_at}
+use Rattle.rb_base.specs.declared.site.SiteId.{SiteId}
+use Rattle.rb_journal_defs.specs.Journal.{Entry, Client, Applied, Closed, Journal, row_changes_of, changes_of, status_change, epoch_of, names_key, of_key, row_after_kind, row_after, row_left, row_at}
 use Rattle.rb_journal_defs.specs.Body.{Shape, changes_in, part_of, numbers_below, is_logged, body_changes}
 use Rattle.rb_journal_defs.specs.Transaction.{kind_over, before_image, after_image, change_over, changes_made}
 use Rattle.rb_message_defs.proofs.Messages.{all_more, all_joined, all_below}
@@ -39,16 +40,26 @@ after_room Insert after room = room
 after_room Update after room = room
 after_room Remove after room = tt
 
-left_room : (last : Option (Option Row)) (row : Option Row) (changes : List Change) → HasValues (unwrap_or last row) → AllByRecursion HasRoom changes → HasValues (unwrap_or (last_or last (map row_after changes)) row)
-left_room last row [] room all = room
-left_room last row (change ∷ changes) room all = left_room (Some (row_after change)) row changes (after_room change.kind change.after all.0.after) all.1
+left_room : (row : Option Row) (changes : List Change) → HasValues row → AllByRecursion HasRoom changes → HasValues (row_left changes row)
+left_room row [] room all = room
+left_room row (change ∷ changes) room all = left_room (row_after change) changes (after_room change.kind change.after all.0.after) all.1
+
+-- the changes of rows are among an entry's changes
+first_of_all : (first second : List Change) → AllByRecursion HasRoom (first ++ second) → AllByRecursion HasRoom first
+first_of_all [] second all = tt
+first_of_all (change ∷ first) second all = (all.0, first_of_all first second all.1)
+
+rows_room : (site : SiteId) (entry : Entry) → AllByRecursion HasRoom (changes_of site entry) → AllByRecursion HasRoom (row_changes_of entry)
+rows_room site (Client epoch transid changes) room = room
+rows_room site (Applied epoch source transid accepted refreshes) room = first_of_all (accepted ++ refreshes) (status_change site source transid ∷ []) room
+rows_room site (Closed epoch) room = tt
 
 -- the row of a key
-row_room : (shape : Shape) (table key : ℕ) (journal : Journal) → JournalHasRoom shape journal → HasValues (row_at shape.site table key journal)
+row_room : (shape : Shape) (table key : ℕ) (journal : Journal) → JournalHasRoom shape journal → HasValues (row_at table key journal)
 row_room shape table key [] room = tt
 row_room shape table key (entry ∷ journal) room =
-    left_room None (row_at shape.site table key journal) (of_key table key (changes_of shape.site entry)) (row_room shape table key journal room.1)
-    (all_filtered HasRoom (names_key table key) (changes_of shape.site entry) room.0)
+    left_room (row_at table key journal) (of_key table key (row_changes_of entry)) (row_room shape table key journal room.1)
+    (all_filtered HasRoom (names_key table key) (row_changes_of entry) (rows_room shape.site entry room.0))
 
 -- a value that a line can write
 value_room : (value : Value) → IsLegalValue value → IsValue value
@@ -94,10 +105,10 @@ all_made schemas author transid rows (operation ∷ operations) few room legal =
 
 -- the changes of a transaction, given the rows of a journal
 pub changes_room : (shape : Shape) (schemas : List Schema) (author transid : ℕ) (operations : List ClientOp) (journal : Journal) → JournalHasRoom shape journal → transid < 2 ^ 64 → AllByRecursion (IsLegalOperation schemas) operations →
-    AllByRecursion HasRoom (changes_made (λ table key. row_at shape.site table key journal) author transid operations)
+    AllByRecursion HasRoom (changes_made (λ table key. row_at table key journal) author transid operations)
 unfolding changes_made
 changes_room shape schemas author transid operations journal room few legal =
-    all_made schemas author transid (λ table key. row_at shape.site table key journal) operations few (λ table key. row_room shape table key journal room) legal
+    all_made schemas author transid (λ table key. row_at table key journal) operations few (λ table key. row_room shape table key journal room) legal
 
 -- the changes of an epoch
 epoch_room : (shape : Shape) (epoch : ℕ) (journal : Journal) → JournalHasRoom shape journal → AllByRecursion HasRoom (changes_in shape.site epoch journal)

@@ -8,8 +8,9 @@ use Rattle.rb_base.specs.declared.site.SiteId.TheVariants.{A}
 use Rattle.rb_base.specs.declared.schema.Schema.{Schema}
 use Rattle.rb_base.specs.declared.body.EpochBody.{EpochBody}
 use Rattle.rb_journal_defs.specs.Journal.{Journal, closed_epochs}
-use Rattle.rb_journal_defs.specs.Body.{body_of, changes_in, completed_bodies, completed_epochs, has_something_to_log}
-use Rattle.rb_journal_defs.proofs.Counts.{body_length, epochs_length, filter_length}
+use Rattle.rb_journal_defs.specs.Body.{body_of, completed_bodies, completed_epochs, has_something_to_log}
+use Rattle.rb_journal_defs.specs.Order.{AreAuthored}
+use Rattle.rb_journal_defs.proofs.Counts.{weight_in, own_weight, own_epochs, body_within, filter_length}
 use Rattle.rb_journal_defs.proofs.Order.{closed_rise}
 use Rattle.rb_message_defs.proofs.Messages.{all_mapped, all_more}
 use Rattle.rb_text_defs.specs.Script.{most_changes, most_lines, most_tables}
@@ -20,7 +21,7 @@ use Rattle.rb_play_defs.specs.Step.{Progress}
 use Rattle.rb_play_defs.specs.Play.{shape_of, play, log_of}
 use Rattle.rb_play_defs.proofs.Fits.{all_filtered}
 use Rattle.rb_run_laws.proofs.BodyReads.{primary, most_bytes_of, IsShortBody, body_short}
-use Rattle.rb_run_laws.proofs.RunKeeps.{Keeps, all_taken, keeps_play}
+use Rattle.rb_run_laws.proofs.RunKeeps.{Keeps, epochs_low, all_taken, keeps_play}
 
 -- the completed epochs are among the closed ones
 filtered_bytes : (body : ℕ → EpochBody) (test : ℕ → Bool) (epochs : List ℕ) → sum_by most_bytes_of (map body (filter test epochs)) ≤ sum_by (λ epoch. most_bytes_of (body epoch)) epochs
@@ -34,20 +35,20 @@ filtered_bytes body test (epoch ∷ epochs) = go (test epoch) (filtered_bytes bo
     go true rest = omega (arith, more, sum_by-cons most_bytes_of (body epoch) (map body (filter test epochs)))
     go false rest = omega (arith, more)
 
-all_bytes : (buckets : ℕ) (schemas : List Schema) (journal : Journal) (epochs : List ℕ) → sum_by (λ epoch. most_bytes_of (body_of (primary buckets schemas) epoch journal)) epochs ≤ 3962 * length epochs + 2047 * sum_by (λ epoch. length (changes_in A epoch journal)) epochs
+all_bytes : (buckets : ℕ) (schemas : List Schema) (journal : Journal) (epochs : List ℕ) → AreAuthored A journal → sum_by (λ epoch. most_bytes_of (body_of (primary buckets schemas) epoch journal)) epochs ≤ 3962 * length epochs + 2047 * sum_by (λ epoch. weight_in own_weight epoch journal) epochs
 unfolding body_of
-all_bytes buckets schemas journal [] = omega arith
-all_bytes buckets schemas journal (epoch ∷ epochs) =
+all_bytes buckets schemas journal [] authored = omega arith
+all_bytes buckets schemas journal (epoch ∷ epochs) authored =
     omega (
       arith,
       sum_by-cons (λ epoch. most_bytes_of (body_of (primary buckets schemas) epoch journal)) epoch epochs,
-      sum_by-cons (λ epoch. length (changes_in A epoch journal)) epoch epochs,
-      body_length (primary buckets schemas) epoch journal,
-      all_bytes buckets schemas journal epochs,
+      sum_by-cons (λ epoch. weight_in own_weight epoch journal) epoch epochs,
+      body_within (primary buckets schemas) epoch journal authored,
+      all_bytes buckets schemas journal epochs authored,
     )
 
 -- the length of the epochs that a run logged
-written_bytes : (buckets : ℕ) (schemas : List Schema) (run : Progress) → Keeps (primary buckets schemas) 0 0 run → (n : ℕ) → sum_by most_bytes_of (take n (completed_bodies (primary buckets schemas) run.journal)) ≤ 3962 * most_lines + 2047 * most_changes
+written_bytes : (buckets : ℕ) (schemas : List Schema) (run : Progress) → Keeps schemas buckets [] run → (n : ℕ) → sum_by most_bytes_of (take n (completed_bodies (primary buckets schemas) run.journal)) ≤ 3962 * most_lines + 2047 * most_changes
 unfolding completed_bodies completed_epochs
 written_bytes buckets schemas run keeps n =
     let shape = primary buckets schemas in
@@ -58,13 +59,13 @@ written_bytes buckets schemas run keeps n =
       arith,
       sum_by-take-le most_bytes_of (map body (filter test closed)) n,
       filtered_bytes body test closed,
-      all_bytes buckets schemas run.journal closed,
-      epochs_length A run.opened closed run.journal (closed_rise run.opened run.journal keeps.order),
+      all_bytes buckets schemas run.journal closed keeps.sound.authored,
+      own_epochs run.opened closed run.journal (closed_rise run.opened run.journal keeps.sound.order),
       keeps.few_epochs,
       keeps.few_changes,
     )
 
-written_count : (buckets : ℕ) (schemas : List Schema) (run : Progress) → Keeps (primary buckets schemas) 0 0 run → (n : ℕ) → length (take n (completed_bodies (primary buckets schemas) run.journal)) ≤ most_lines
+written_count : (buckets : ℕ) (schemas : List Schema) (run : Progress) → Keeps schemas buckets [] run → (n : ℕ) → length (take n (completed_bodies (primary buckets schemas) run.journal)) ≤ most_lines
 unfolding completed_bodies completed_epochs
 written_count buckets schemas run keeps n =
     let shape = primary buckets schemas in
@@ -78,14 +79,14 @@ written_count buckets schemas run keeps n =
     taken (suc n) [] = omega arith
     taken (suc n) (x ∷ xs) = omega (arith, taken n xs)
 
-completed_short : (buckets : ℕ) (schemas : List Schema) (run : Progress) → AllByRecursion IsLegalTable schemas → length schemas ≤ most_tables → Keeps (primary buckets schemas) 0 0 run → AllByRecursion IsShortBody (completed_bodies (primary buckets schemas) run.journal)
+completed_short : (buckets : ℕ) (schemas : List Schema) (run : Progress) → AllByRecursion IsLegalTable schemas → length schemas ≤ most_tables → Keeps schemas buckets [] run → AllByRecursion IsShortBody (completed_bodies (primary buckets schemas) run.journal)
 unfolding completed_bodies completed_epochs
 completed_short buckets schemas run legal few keeps =
     let shape = primary buckets schemas in
     let logged = filter (λ epoch. has_something_to_log (body_of shape epoch run.journal)) (closed_epochs run.journal) in
     all_mapped IsShortBody (λ epoch. body_of shape epoch run.journal) logged
     (all_more (λ epoch. epoch < 2 ^ 64) (λ epoch. IsShortBody (body_of shape epoch run.journal)) logged (λ epoch below. body_short buckets schemas epoch run.journal legal few keeps.fits keeps.room)
-    (all_filtered (λ epoch. epoch < 2 ^ 64) (λ epoch. has_something_to_log (body_of shape epoch run.journal)) (closed_epochs run.journal) keeps.epochs))
+    (all_filtered (λ epoch. epoch < 2 ^ 64) (λ epoch. has_something_to_log (body_of shape epoch run.journal)) (closed_epochs run.journal) (epochs_low schemas buckets run keeps)))
 
 -- the log of a legal script's run is short
 pub record IsShortLog (script : Script) : Type 0 where
@@ -96,10 +97,10 @@ pub record IsShortLog (script : Script) : Type 0 where
 pub log_short : (script : Script) → IsLegal script → IsShortLog script
 log_short script legal =
     let buckets = script.setup.a.groups * script.setup.a.replicas in
-    let run = (play script).run in
+    let run = (play script).sites.a in
     let keeps = keeps_play script legal in
     record {
       few = written_count buckets script.setup.tables run keeps run.written;
-      short = all_taken IsShortBody run.written (completed_bodies (shape_of script.setup) run.journal) (completed_short buckets script.setup.tables run legal.tables legal.few_tables keeps);
+      short = all_taken IsShortBody run.written (completed_bodies (shape_of script.setup A) run.journal) (completed_short buckets script.setup.tables run legal.setup.tables legal.setup.few_tables keeps);
       bytes = written_bytes buckets script.setup.tables run keeps run.written;
     }

@@ -26,7 +26,8 @@ pub fn written_epochs_are_readable()
 /// logged it.
 pub fn completed_epochs_are_readable()
     ensures { (script : Script) → IsLegal script →
-        All IsReadable (completed_bodies (shape_of script.setup) (play script).run.journal) }
+        All IsReadable (completed_bodies (shape_of script.setup A)
+        (play script).sites.a.journal) }
 {}
 
 /// A log of readable epochs is read as it was written, whatever the limit for the rotation of its

@@ -2,8 +2,8 @@
 //!
 //! Room is reserved first. Of the calls that make or use room, only [`Tables::reserve`] can run out
 //! of memory, and it changes no row. Each [`Tables::put`] or [`Tables::remove`] then uses one place
-//! of its key's room, and cannot fail. So a transaction reserves all of its room before it changes
-//! a row.
+//! of its key's room, and cannot fail. So a transaction reserves room for all its changes before it
+//! changes a row.
 #![tactic(auto)]
 
 mod table;

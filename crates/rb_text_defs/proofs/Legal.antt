@@ -24,7 +24,7 @@ use Rattle.rb_text_defs.specs.declared.script.Script.{Script}
 use Rattle.rb_text_defs.specs.Words.{lines_of}
 use Rattle.rb_text_defs.specs.Form.{Operation, Form, SiteLine, TableLine, TxLine, EventLine, LineMeaning, Wrong, Skipped, Says, reading_of}
 use Rattle.rb_text_defs.specs.Script.{most_bytes, most_lines, most_tables, most_columns, most_groups, most_replicas, most_changes, most_row_bytes, most_tx_changes, most_work, least_limit, most_limit, row_bytes, work_of, default_site, first_of, nodes_in, shape_in, table_in, tables_in, is_event, changes_in_form, client_op, row_for, table_number, has_values, is_named, suits_table, suits_tables, events_of, form_in, is_misplaced, limit_passed, refusal_of_line, refused_lines, script_in, script_of, script_of_readings}
-use Rattle.rb_text_defs.specs.Legal.{IsLegal, IsLegalTable, IsLegalValue, IsLegalOperation, IsLegalEvent, HasLegalRow, changes_in_event, columns_at}
+use Rattle.rb_text_defs.specs.Legal.{IsLegalSite, IsLegal, IsLegalTable, IsLegalValue, IsLegalOperation, IsLegalEvent, HasLegalRow, changes_in_event, columns_at}
 use Rattle.rb_text_defs.proofs.Said.{IsSaidBy, IsSaidOperation, reading_said}
 use Rattle.rb_text_defs.proofs.Lines.{events_more, forms_more, forms_of, no_events, none_given, not_misplaced, or_left, or_right}
 
@@ -69,15 +69,9 @@ all_append : {X : Type 0} (P : X → Type 0) (xs ys : List X) → AllByRecursion
 all_append P [] ys all more = more
 all_append P (x ∷ xs) ys all more = (all.0, all_append P xs ys all.1 more)
 
--- the setup of a site within the limits
-record IsLegalShape (shape : SiteSetup) : Type 0 where
-  groups : (1 ≤ shape.groups) × (shape.groups ≤ most_groups)
-  replicas : (1 ≤ shape.replicas) × (shape.replicas ≤ most_replicas)
-  limit : (least_limit ≤ shape.limit) × (shape.limit ≤ most_limit)
-
 -- forms, and the events of `count` lines, that are within the limits
 record Keeps (forms : List Form) (told : List LinedEvent) (count : ℕ) : Type 0 where
-  shape : IfSome (first_of (filter_map shape_in forms)) IsLegalShape
+  shape : IfSome (first_of (filter_map shape_in forms)) IsLegalSite
   few_tables : length (tables_in forms) ≤ most_tables
   tables : AllByRecursion IsLegalTable (tables_in forms)
   events : AllByRecursion (λ lined. IsLegalEvent (tables_in forms) (nodes_in forms) lined.event) told
@@ -97,7 +91,7 @@ same_shapes forms form none = filter_map-append shape_in forms (form ∷ []) ∙
 
 -- one more form, which declares no table
 keeps_form : (forms : List Form) (events more : List LinedEvent) (count : ℕ) (form : Form) → Keeps forms events count → table_in form ≡ None
-    → IfSome (first_of (filter_map shape_in (forms ++ form ∷ []))) IsLegalShape → AllByRecursion (λ lined. IsLegalEvent (tables_in forms) (nodes_in (forms ++ form ∷ [])) lined.event) (events ++ more) → length more ≤ 1 → count + 1 ≤ most_lines
+    → IfSome (first_of (filter_map shape_in (forms ++ form ∷ []))) IsLegalSite → AllByRecursion (λ lined. IsLegalEvent (tables_in forms) (nodes_in (forms ++ form ∷ [])) lined.event) (events ++ more) → length more ≤ 1 → count + 1 ≤ most_lines
     → sum_by (λ lined. changes_in_event lined.event) more ≡ changes_in_form form → sum_by changes_in_form forms + changes_in_form form ≤ most_changes
     → Keeps (forms ++ form ∷ []) (events ++ more) (count + 1)
 keeps_form forms events more count form keeps none shape legal one lines counted room =
@@ -129,7 +123,7 @@ keeps_table forms events count name columns keeps none legal room lines =
     let tables = filter_map-append table_in forms (TableLine name columns ∷ []) in
     let table : Schema = record { name = name; columns = columns } in
     record {
-      shape = subst (λ (shapes : List SiteSetup). IfSome (first_of shapes) IsLegalShape) (sym (same_shapes forms (TableLine name columns) refl)) keeps.shape;
+      shape = subst (λ (shapes : List SiteSetup). IfSome (first_of shapes) IsLegalSite) (sym (same_shapes forms (TableLine name columns) refl)) keeps.shape;
       few_tables = omega (arith, ap length tables, length-append (tables_in forms) (table ∷ []), room);
       tables = subst (λ (tables : List Schema). AllByRecursion IsLegalTable tables) (sym tables) (all_append IsLegalTable (tables_in forms) (table ∷ []) keeps.tables (legal, tt));
       events = tt;
@@ -201,7 +195,7 @@ so_far_more readings (Says (SiteLine site groups replicas limit)) so fine said =
     let limit_in = and_parts (nat_le least_limit limit) (nat_le limit most_limit) (not-false (nat_le least_limit limit && nat_le limit most_limit) within.3) in
     let none = none_given shape_in forms (or_right (list_any is_event forms) (list_any (λ form. is_some (shape_in form)) forms) placed) in
     let quiet : list_any is_event forms ≡ false = or_left (list_any is_event forms) (list_any (λ form. is_some (shape_in form)) forms) placed in
-    let shape : IsLegalShape (record { groups = groups; replicas = replicas; limit = limit }) = record {
+    let shape : IsLegalSite (record { groups = groups; replicas = replicas; limit = limit }) = record {
       groups = (leb-true 1 groups groups_in.0, leb-true groups most_groups groups_in.1);
       replicas = (leb-true 1 replicas replicas_in.0, leb-true replicas most_replicas replicas_in.1);
       limit = (leb-true least_limit limit limit_in.0, leb-true limit most_limit limit_in.1);
@@ -209,7 +203,7 @@ so_far_more readings (Says (SiteLine site groups replicas limit)) so fine said =
     to_so_far readings (Says form) (forms ++ form ∷ []) (events_of (tables_in forms) readings ++ []) (forms_more readings (Says form))
     (events_after readings (Says form) form [] refl (events_more (tables_in forms) readings (Says form)))
     (keeps_form forms (events_of (tables_in forms) readings) [] (length readings) form so refl
-    (subst (λ (shapes : List SiteSetup). IfSome (first_of shapes) IsLegalShape) (sym (filter_map-append shape_in forms (form ∷ []) ∙ ap (λ (shapes : List SiteSetup). shapes ++ filter_map shape_in (form ∷ [])) none)) shape)
+    (subst (λ (shapes : List SiteSetup). IfSome (first_of shapes) IsLegalSite) (sym (filter_map-append shape_in forms (form ∷ []) ∙ ap (λ (shapes : List SiteSetup). shapes ++ filter_map shape_in (form ∷ [])) none)) shape)
     (no_event_legal _ (events_of (tables_in forms) readings) (no_events (tables_in forms) readings 0 quiet)) (omega arith) (ltb-false most_lines (length readings + 1) within.0) refl (omega (arith, so.changes)))
 so_far_more readings (Says (TableLine name columns)) so fine said =
     let form = TableLine name columns in
@@ -233,8 +227,8 @@ so_far_more readings (Says (TxLine site operations)) so fine said =
     to_so_far readings (Says form) (forms ++ form ∷ []) (events_of (tables_in forms) readings ++ lined ∷ []) (forms_more readings (Says form))
     (events_after readings (Says form) form (lined ∷ []) refl (events_more (tables_in forms) readings (Says form)))
     (keeps_form forms (events_of (tables_in forms) readings) (lined ∷ []) (length readings) form so refl
-    (subst (λ (shapes : List SiteSetup). IfSome (first_of shapes) IsLegalShape) (sym (same_shapes forms form refl)) so.shape)
-    (events_and forms form (events_of (tables_in forms) readings) (lined ∷ []) refl so.events ((said.0, operations_legal (tables_in forms) operations (not-false (list_all (suits_tables (tables_in forms)) operations) placed) said.1), tt)) (omega arith) (ltb-false most_lines (length readings + 1) within.0)
+    (subst (λ (shapes : List SiteSetup). IfSome (first_of shapes) IsLegalSite) (sym (same_shapes forms form refl)) so.shape)
+    (events_and forms form (events_of (tables_in forms) readings) (lined ∷ []) refl so.events ((said.0, omega (arith, said.1, length-map operations (client_op (tables_in forms))), operations_legal (tables_in forms) operations (not-false (list_all (suits_tables (tables_in forms)) operations) placed) said.2), tt)) (omega arith) (ltb-false most_lines (length readings + 1) within.0)
     (omega (arith, length-map operations (client_op (tables_in forms)))) (ltb-false most_changes (sum_by changes_in_form forms + length operations) within.2))
 so_far_more readings (Says (EventLine event)) so fine said =
     let form = EventLine event in
@@ -244,7 +238,7 @@ so_far_more readings (Says (EventLine event)) so fine said =
     to_so_far readings (Says form) (forms ++ form ∷ []) (events_of (tables_in forms) readings ++ lined ∷ []) (forms_more readings (Says form))
     (events_after readings (Says form) form (lined ∷ []) refl (events_more (tables_in forms) readings (Says form)))
     (keeps_form forms (events_of (tables_in forms) readings) (lined ∷ []) (length readings) form so refl
-    (subst (λ (shapes : List SiteSetup). IfSome (first_of shapes) IsLegalShape) (sym (same_shapes forms form refl)) so.shape)
+    (subst (λ (shapes : List SiteSetup). IfSome (first_of shapes) IsLegalSite) (sym (same_shapes forms form refl)) so.shape)
     (events_and forms form (events_of (tables_in forms) readings) (lined ∷ []) refl so.events (said.0 (tables_in forms) (nodes_in forms) (not_misplaced forms (length readings + 1) form fine), tt)) (omega arith) (ltb-false most_lines (length readings + 1) within) (omega (arith, said.1)) (omega (arith, so.changes)))
 
 abbrev refusal_in : List LineMeaning → ℕ × LineMeaning → Option BadLine
@@ -271,7 +265,7 @@ all_said : (lines : List (List ℕ)) → AllByRecursion IsSaidBy (map reading_of
 all_said [] = tt
 all_said (line ∷ lines) = (reading_said line, all_said lines)
 
-shape_legal : (shape : Option SiteSetup) → IfSome shape IsLegalShape → IsLegalShape (option_map_or (λ shape. shape) shape default_site)
+shape_legal : (shape : Option SiteSetup) → IfSome shape IsLegalSite → IsLegalSite (option_map_or (λ shape. shape) shape default_site)
 shape_legal None legal = record { groups = (omega arith, omega arith); replicas = (omega arith, omega arith); limit = (omega arith, omega arith) }
 shape_legal (Some shape) legal = legal
 
@@ -282,13 +276,13 @@ nodes_of_shape (Some shape) = refl
 
 legal_so_far : (readings : List LineMeaning) → SoFar readings → IsLegal (script_in readings)
 legal_so_far readings so =
-    let shape = shape_legal (first_of (filter_map shape_in (forms_of readings))) so.shape in
     record {
-      groups = shape.groups;
-      replicas = shape.replicas;
-      limit = shape.limit;
-      few_tables = so.few_tables;
-      tables = so.tables;
+      setup = record {
+        a = shape_legal (first_of (filter_map shape_in (forms_of readings))) so.shape;
+        b = shape_legal None tt;
+        few_tables = so.few_tables;
+        tables = so.tables;
+      };
       events = subst (λ (nodes : ℕ). AllByRecursion (λ lined. IsLegalEvent (tables_in (forms_of readings)) nodes lined.event) (events_of (tables_in (forms_of readings)) readings)) (nodes_of_shape (first_of (filter_map shape_in (forms_of readings)))) so.events;
       few_events = omega (arith, so.few, so.lines);
       few_changes = omega (arith, so.counted, so.changes);

@@ -1,9 +1,11 @@
 -- What holds of a line from its words alone.
-use Rattle.std.proofs.Common.{◌≡◌, ℕ, ◌<◌, ◌≤◌, ◌^◌, Bool, true, false, List, [], ◌∷◌, length, map, Option, Some, None, refl}
+use Rattle.std.proofs.Common.{◌≡◌, ℕ, ◌<◌, ◌≤◌, ◌^◌, Bool, true, false, List, [], ◌∷◌, length, map, Option, Some, None, refl, arith}
 use Rattle.std.specs.Prelude.{nat_le, ◌&&◌, if◌then◌else◌, codes, ⊤, IfSome}
 use Rattle.std.specs.List.{AllByRecursion, list_all, slice_split}
 use Rattle.std.specs.Option.{option_and_then, option_map, option_map_or}
 use Rattle.std.proofs.lemmas.Bool.{leb-true, leb-false, ltb-true, and_parts}
+use Rattle.std.proofs.lemmas.List.{length-map}
+use Rattle.std.proofs.lemmas.List.Splits.{length-slice_split}
 use Rattle.rb_base.specs.declared.site.SiteId.{SiteId}
 use Rattle.rb_base.specs.declared.site.SiteId.TheVariants.{A}
 use Rattle.rb_base.specs.declared.schema.Column.TheVariants.{Num, Text}
@@ -26,7 +28,7 @@ pub record IsSaidOperation (operation : Operation) : Type 0 where
 abbrev pub IsSaid : Form → Type 0
 IsSaid (SiteLine site groups replicas limit) = ⊤
 IsSaid (TableLine name columns) = (length name ≤ 32) × AllByRecursion IsLegalColumn columns
-IsSaid (TxLine site operations) = (site ≡ A) × AllByRecursion IsSaidOperation operations
+IsSaid (TxLine site operations) = (site ≡ A) × (1 ≤ length operations) × AllByRecursion IsSaidOperation operations
 IsSaid (EventLine event) = ((tables : List Schema) (nodes : ℕ) → option_map_or (nat_le nodes) (node_in event) false ≡ false → IsLegalEvent tables nodes event) × (changes_in_event event ≡ 0)
 
 if_bound : {X Y : Type 0} (P : X → Type 0) (Q : Y → Type 0) (value : Option X) (next : X → Option Y) → IfSome value P → ((x : X) → P x → IfSome (next x) Q) → IfSome (value >>= next) Q
@@ -80,6 +82,20 @@ each_said P f said (x ∷ xs) = pick P (f x) (map f xs) (said x) (each_said P f 
     pick : {Y : Type 0} (P : Y → Type 0) (first : Option Y) (values : List (Option Y)) → IfSome first P → IfSome (all_of values) (AllByRecursion P) → IfSome (all_of (first ∷ values)) (AllByRecursion P)
     pick P None values here all = tt
     pick P (Some y) values here all = more P y (all_of values) here all
+
+-- and there are as many values as words
+each_counted : {Y : Type 0} (values : List (Option Y)) → IfSome (all_of values) (λ all. length all ≡ length values)
+each_counted [] = refl
+each_counted (None ∷ values) = tt
+each_counted {Y = Y} (Some y ∷ values) = more (all_of values) (each_counted values)
+  where
+    more : (others : Option (List Y)) → IfSome others (λ all. length all ≡ length values) → IfSome (option_map (λ others. y ∷ others) others) (λ all. length all ≡ length (Some y ∷ values))
+    more None counted = tt
+    more (Some others) counted = omega (arith, counted)
+
+if_both : {X : Type 0} (P Q : X → Type 0) (value : Option X) → IfSome value P → IfSome value Q → IfSome value (λ x. P x × Q x)
+if_both P Q None here there = tt
+if_both P Q (Some x) here there = (here, there)
 
 columns_said : (words : List Word) → IfSome (all_of (map type_of words)) (AllByRecursion IsLegalColumn)
 columns_said words = each_said IsLegalColumn type_of type_said words
@@ -138,8 +154,13 @@ tx_line_said : (words : List Word) → IfSome (tx_line words) IsSaid
 unfolding tx_line
 tx_line_said [] = tt
 tx_line_said (site ∷ words) =
+    let parts = slice_split (is_word (codes ";")) words in
+    let said = each_said IsSaidOperation operation_of operation_said parts in
+    let counted = each_counted (map operation_of parts) in
     if_bound (λ site. site ≡ A) IsSaid (site_of site) _ (site_said site) (λ id is.
-    if_bound (AllByRecursion IsSaidOperation) IsSaid (all_of (map operation_of (slice_split (is_word (codes ";")) words))) _ (each_said IsSaidOperation operation_of operation_said (slice_split (is_word (codes ";")) words)) (λ operations all. (is, all)))
+    if_bound (λ all. AllByRecursion IsSaidOperation all × (length all ≡ length (map operation_of parts))) IsSaid (all_of (map operation_of parts)) _
+    (if_both (AllByRecursion IsSaidOperation) (λ all. length all ≡ length (map operation_of parts)) (all_of (map operation_of parts)) said counted)
+    (λ operations both. (is, omega (arith, both.1, length-map parts operation_of, length-slice_split (is_word (codes ";")) words), both.0)))
 
 site_event_said : (event : SiteId → Event) → ((site : SiteId) → site ≡ A → ((tables : List Schema) (nodes : ℕ) → option_map_or (nat_le nodes) (node_in (event site)) false ≡ false → IsLegalEvent tables nodes (event site)) × (changes_in_event (event site) ≡ 0)) → (words : List Word) → IfSome (site_event event words) IsSaid
 unfolding site_event

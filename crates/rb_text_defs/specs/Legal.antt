@@ -9,6 +9,8 @@ use Rattle.rb_base.specs.declared.schema.Schema.{Schema}
 use Rattle.rb_base.specs.declared.row.Row.{Row}
 use Rattle.rb_base.specs.declared.row.Value.{Value}
 use Rattle.rb_base.specs.declared.row.Value.TheVariants as values
+use Rattle.rb_base.specs.declared.script.SiteSetup.{SiteSetup}
+use Rattle.rb_base.specs.declared.script.Setup.{Setup}
 use Rattle.rb_base.specs.declared.script.Op.{Op}
 use Rattle.rb_base.specs.declared.script.Op.TheVariants.{Ins, Upd, Put, Del}
 use Rattle.rb_base.specs.declared.script.ClientOp.{ClientOp}
@@ -59,9 +61,9 @@ pub record IsLegalOperation (tables : List Schema) (operation : ClientOp) : Type
   pub key : operation.key < 2 ^ 64
   pub row : HasLegalRow operation.op (columns_at tables operation.table) operation.key operation.row
 
--- an event that can run, at a site with this number of nodes
+-- an event that can run, at a site with this number of nodes; a transaction has an operation
 abbrev pub IsLegalEvent : List Schema → (nodes : ℕ) → Event → Type 0
-IsLegalEvent tables nodes (events.Tx site operations) = (site ≡ A) × AllByRecursion (IsLegalOperation tables) operations
+IsLegalEvent tables nodes (events.Tx site operations) = (site ≡ A) × (1 ≤ length operations) × AllByRecursion (IsLegalOperation tables) operations
 IsLegalEvent tables nodes (events.Close site gci) = site ≡ A
 IsLegalEvent tables nodes (events.Deliver site place) = site ≡ A
 IsLegalEvent tables nodes (events.DeliverAll site) = site ≡ A
@@ -78,13 +80,22 @@ abbrev pub changes_in_event : Event → ℕ
 changes_in_event (events.Tx site operations) = length operations
 changes_in_event event = 0
 
+-- a site whose groups, nodes in each group, and binlog files are within the limits
+pub record IsLegalSite (site : SiteSetup) : Type 0 where
+  pub groups : (1 ≤ site.groups) × (site.groups ≤ most_groups)
+  pub replicas : (1 ≤ site.replicas) × (site.replicas ≤ most_replicas)
+  pub limit : (least_limit ≤ site.limit) × (site.limit ≤ most_limit)
+
+-- two sites and tables within the limits
+pub record IsLegalSetup (setup : Setup) : Type 0 where
+  pub a : IsLegalSite setup.a
+  pub b : IsLegalSite setup.b
+  pub few_tables : length setup.tables ≤ most_tables
+  pub tables : AllByRecursion IsLegalTable setup.tables
+
 -- a script within all limits
 pub record IsLegal (script : Script) : Type 0 where
-  pub groups : (1 ≤ script.setup.a.groups) × (script.setup.a.groups ≤ most_groups)
-  pub replicas : (1 ≤ script.setup.a.replicas) × (script.setup.a.replicas ≤ most_replicas)
-  pub limit : (least_limit ≤ script.setup.a.limit) × (script.setup.a.limit ≤ most_limit)
-  pub few_tables : length script.setup.tables ≤ most_tables
-  pub tables : AllByRecursion IsLegalTable script.setup.tables
+  pub setup : IsLegalSetup script.setup
   pub events : AllByRecursion (λ lined. IsLegalEvent script.setup.tables (script.setup.a.groups * script.setup.a.replicas) lined.event) script.events
   pub few_events : length script.events ≤ most_lines
   pub few_changes : sum_by (λ lined. changes_in_event lined.event) script.events ≤ most_changes
