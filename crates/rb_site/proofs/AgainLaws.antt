@@ -78,7 +78,7 @@ done_share shape run number bucket prev is before =
 
 -- the buckets that return at a close
 returns_share : (shape : Shape) (run : Progress) (number bucket : ℕ) → IsOf run.nodes.replicas number bucket →
-    returns_in (share_of shape.buckets (buffered_by shape run) number) bucket ≡ returns run.nodes (needed_of shape run) bucket
+    returns_in (share_of shape.buckets (buffered_by shape run) number) bucket ≡ returns run.nodes (needed_of run) bucket
 returns_share shape run number bucket is =
     ap (λ (o : ℕ). not (o == home_node bucket) && covers_in (share_of shape.buckets (buffered_by shape run) number) (home_node bucket)) (owner_share shape.buckets (buffered_by shape run) number bucket is.0 is.1)
     ∙ ap (λ (c : Bool). not (owner_in run.nodes bucket == home_node bucket) && c)
@@ -94,10 +94,10 @@ group_closes shape gci run number prev next before following =
     ∙ ap (λ (ms : List Sent). ms ++ flat_map (λ bucket. again_in now bucket bucket) (filter (returns_in now) numbers))
     (map_alike done (λ bucket. sent_by (owner_in run.nodes) (done_message shape run.opened bucket run.journal)) numbers (all_more (IsOf run.nodes.replicas number) (λ bucket. done bucket ≡ sent_by (owner_in run.nodes) (done_message shape run.opened bucket run.journal)) numbers (λ bucket is. done_share shape run number bucket prev is before) own))
     ∙ ap (λ (ns : List ℕ). map (λ bucket. sent_by (owner_in run.nodes) (done_message shape run.opened bucket run.journal)) numbers ++ flat_map (λ bucket. again_in now bucket bucket) ns)
-    (filter_alike (returns_in now) (returns run.nodes (needed_of shape after)) numbers (all_more (IsOf run.nodes.replicas number) (λ bucket. returns_in now bucket ≡ returns run.nodes (needed_of shape after) bucket) numbers (λ bucket is. returns_share shape after number bucket is) own))
+    (filter_alike (returns_in now) (returns run.nodes (needed_of after)) numbers (all_more (IsOf run.nodes.replicas number) (λ bucket. returns_in now bucket ≡ returns run.nodes (needed_of after) bucket) numbers (λ bucket is. returns_share shape after number bucket is) own))
     ∙ ap (λ (ms : List Sent). map (λ bucket. sent_by (owner_in run.nodes) (done_message shape run.opened bucket run.journal)) numbers ++ ms)
-    (flat_alike (λ bucket. again_in now bucket bucket) (λ bucket. sent_again shape after bucket bucket) (filter (returns run.nodes (needed_of shape after)) numbers)
-    (all_filtered (λ bucket. again_in now bucket bucket ≡ sent_again shape after bucket bucket) (returns run.nodes (needed_of shape after)) numbers (all_more (IsOf run.nodes.replicas number) (λ bucket. again_in now bucket bucket ≡ sent_again shape after bucket bucket) numbers (λ bucket is. again_share shape after number bucket bucket is) own)))
+    (flat_alike (λ bucket. again_in now bucket bucket) (λ bucket. sent_again shape after bucket bucket) (filter (returns run.nodes (needed_of after)) numbers)
+    (all_filtered (λ bucket. again_in now bucket bucket ≡ sent_again shape after bucket bucket) (returns run.nodes (needed_of after)) numbers (all_more (IsOf run.nodes.replicas number) (λ bucket. again_in now bucket bucket ≡ sent_again shape after bucket bucket) numbers (λ bucket is. again_share shape after number bucket bucket is) own)))
   where
     after : Progress
     after = only_closed gci run

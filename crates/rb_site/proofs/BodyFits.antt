@@ -79,11 +79,6 @@ can_be_written shape e j declared fits =
           (all_more (IsWritable tables) (λ change. (0 < length (columns_of tables change.table)) × (length (columns_of tables change.table) ≤ 64)) changes (λ change held. (held.2, (let f = held.0.few in omega arith))) writable);
     }
 
--- changes of which there is one
-pub at_least_one : (changes : List Change) → is_some_change changes ≡ true → 0 < length changes
-at_least_one [] same = absurd (let g : false ≡ true = same in cc)
-at_least_one (c ∷ changes) same = omega arith
-
 -- it takes few bytes for each of its tables and its changes
 pub few_bytes : (shape : Shape) (e : ℕ) (j : Journal) (start : ℕ) → AreDeclared shape → JournalFits shape j → length (epoch_bytes (body_of shape e j) start) ≤ 218 + 117 * length shape.tables + 2047 * length (body_of shape e j).changes
 unfolding body_of IsWritable

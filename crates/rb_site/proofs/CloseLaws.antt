@@ -1,5 +1,5 @@
 -- What the close of an epoch leaves of a site.
-use Rattle.std.proofs.Common.{◌≡◌, ℕ, ◌/◌, ◌<◌, Bool, List, [], ◌∷◌, ◌++◌, length, map, take, filter, refl, sym, ap, subst, ◌∙◌, arith, lt-ltb}
+use Rattle.std.proofs.Common.{◌≡◌, ℕ, ◌+◌, ◌/◌, ◌<◌, ◌≤◌, Bool, List, [], ◌∷◌, ◌++◌, length, map, take, filter, refl, sym, ap, subst, ◌∙◌, arith, lt-ltb, length-append}
 use Rattle.std.specs.Prelude.{nat_lt, sum_by, Option, None, unwrap_or}
 use Rattle.std.specs.List.{AllByRecursion, flat_map, last_or}
 use Rattle.std.proofs.Math.Path.{fun_ext}
@@ -11,31 +11,32 @@ use Rattle.rb_base.specs.declared.change.Change.{Change}
 use Rattle.rb_base.specs.declared.message.Sent.{Sent}
 use Rattle.rb_base.specs.declared.body.EpochBody.{EpochBody}
 use Rattle.rb_base.specs.declared.outcome.Outcome.TheVariants as outcomes
-use Rattle.rb_journal_defs.specs.Journal.{Entry, Closed, Journal, changes_of, closed_epochs, previous_closed}
+use Rattle.rb_journal_defs.specs.Journal.{Entry, Closed, Journal, own_of, closed_epochs, previous_closed}
+use Rattle.rb_journal_defs.specs.Counts.{own_changes, applied_of}
 use Rattle.rb_journal_defs.specs.Body.{Shape, changes_in, body_of, completed_bodies}
 use Rattle.rb_journal_defs.specs.Clock.{epoch_after}
 use Rattle.rb_journal_defs.proofs.Bodies.{changes_in_closed, completed_closed, if_logged}
-use Rattle.rb_message_defs.specs.Nodes.{needed_epoch, with_returns}
+use Rattle.rb_message_defs.specs.Nodes.{with_returns}
 use Rattle.rb_message_defs.proofs.Messages.{previous_stays}
 use Rattle.rb_commit.specs.Hand.{Hand}
-use Rattle.rb_store.specs.Tables.{rows_in, tables_in}
+use Rattle.rb_store.specs.Tables.{held_at, tables_in}
 use Rattle.rb_evbuf.specs.Buffer.{StandsFor}
 use Rattle.rb_evbuf.specs.declared.buffer.EventBuffer.{EventBuffer}
-use Rattle.rb_play_defs.specs.Step.{Progress, only_closed, sent_at_close, closed, close_step, fed_by, written_bodies, last_epoch, acknowledged_epoch, needed_of}
+use Rattle.rb_play_defs.specs.Step.{Progress, only_closed, sent_at_close, closed, close_step, fed_by, written_bodies}
 use Rattle.rb_play_defs.specs.Sound.{IsSound}
 use Rattle.rb_inject.specs.Injector as inject
 use Rattle.rb_inject.specs.declared.injector.Injector.{Injector}
 use Rattle.rb_play_defs.proofs.Sounds.{closed_all_below, epoch_rises, sound_close}
 use Rattle.rb_play_defs.proofs.Grows.{written_within}
-use Rattle.rb_play_defs.proofs.Covering.{AllCovered, acknowledged_below, needed_at_close, covered_returns}
+use Rattle.rb_play_defs.proofs.Covering.{covered_close}
 use Rattle.rb_nodes.specs.Nodes as site
 use Rattle.rb_nodes.specs.Nodes.{Buffered, needed_by, with_close}
 use Rattle.rb_nodes.specs.Net.{Net, HoldsNet, count_in, closed_net, CanClose}
-use Rattle.rb_site.specs.Site.{IsSite, buffered_by, net_of, closes_of, setup_of}
+use Rattle.rb_site.specs.Site.{IsSite, rest_of, most_closed, closed_by, buffered_by, net_of, closes_of, setup_of}
 use Rattle.rb_site.specs.declared.site.Site.{Site}
 use Rattle.rb_site.proofs.RowLaws.{last_end}
 use Rattle.rb_site.proofs.ShareLaws.{needed_share}
-use Rattle.rb_site.proofs.PointLaws.{can_count, cover_at_site, cover_in_run}
+use Rattle.rb_site.proofs.PointLaws.{can_count, cover_at_site}
 use Rattle.rb_site.proofs.AgainLaws.{sent_closing}
 
 -- the epoch that was closed last is the one before the next
@@ -69,8 +70,8 @@ closes_after o j below = sym (
 pub can_close : (shape : Shape) (gci : Bool) (site : Site) (seen : ℕ → List ℕ) (run : Progress) (next : ℕ) → IsSite shape site seen run → run.lost ≡ None → next ≡ epoch_after gci site.clock.opened → CanClose site.nodes next
 can_close shape gci site seen run next held none is =
     let above : run.opened < epoch_after gci run.opened = epoch_rises gci run.opened in
-    let same : next ≡ epoch_after gci run.opened = is ∙ ap (λ (hand : Hand). epoch_after gci hand.opened) held.clock in
-    (shape.buckets, net_of shape run, held.net, held.covered none, can_count shape site seen run held, omega arith)
+    let same : next ≡ epoch_after gci run.opened = is ∙ ap (λ (hand : Hand). epoch_after gci hand.opened) held.rest.clock in
+    (shape.buckets, net_of shape run, held.rest.net, cover_at_site shape run (held.rest.covered.owners none), can_count shape (rest_of site) run held.rest, omega arith)
 
 -- what is written stays
 written_stays : (shape : Shape) (gci : Bool) (run : Progress) → IsSound shape run → written_bodies shape (closed shape gci run) ≡ written_bodies shape run
@@ -83,11 +84,10 @@ pub buffered_after : (shape : Shape) (gci : Bool) (run : Progress) (prev next : 
     site.only_closed prev next (buffered_by shape run) ≡ buffered_by shape (only_closed gci run)
 buffered_after shape gci run prev next sound before after =
     let o = run.opened in
-    ap (λ (n : ℕ). record { opened = n; acknowledged = acknowledged_epoch shape run; changes = λ e. changes_in shape.site e run.journal; closes = closes_of run.journal ++ (o, prev) ∷ []; members = run.nodes }) after
-    ∙ ap (λ (bs : List EpochBody). record { opened = epoch_after gci o; acknowledged = last_epoch bs; changes = λ e. changes_in shape.site e run.journal; closes = closes_of run.journal ++ (o, prev) ∷ []; members = run.nodes }) (sym (written_stays shape gci run sound))
-    ∙ ap (λ (f : ℕ → List Change). record { opened = epoch_after gci o; acknowledged = acknowledged_epoch shape (only_closed gci run); changes = f; closes = closes_of run.journal ++ (o, prev) ∷ []; members = run.nodes })
+    ap (λ (n : ℕ). record { opened = n; acknowledged = run.acknowledged; changes = λ e. changes_in shape.site e run.journal; closes = closes_of run.journal ++ (o, prev) ∷ []; members = run.nodes }) after
+    ∙ ap (λ (f : ℕ → List Change). record { opened = epoch_after gci o; acknowledged = run.acknowledged; changes = f; closes = closes_of run.journal ++ (o, prev) ∷ []; members = run.nodes })
     (fun_ext (λ e. sym (changes_in_closed shape.site e o run.journal)))
-    ∙ ap (λ (cs : List (ℕ × ℕ)). record { opened = epoch_after gci o; acknowledged = acknowledged_epoch shape (only_closed gci run); changes = λ e. changes_in shape.site e (Closed o ∷ run.journal); closes = cs; members = run.nodes })
+    ∙ ap (λ (cs : List (ℕ × ℕ)). record { opened = epoch_after gci o; acknowledged = run.acknowledged; changes = λ e. changes_in shape.site e (Closed o ∷ run.journal); closes = cs; members = run.nodes })
     (ap (λ (p : ℕ). closes_of run.journal ++ (o, p) ∷ []) before ∙ closes_after o run.journal (closed_all_below o run.journal sound.order))
 
 -- and after their return
@@ -107,49 +107,46 @@ net_closed shape gci run prev next before following =
     ∙ ap (λ (ms : List Sent). record { buffered = buffered_by shape (closed shape gci run); sent = run.sent ++ ms; delivered = run.delivered; lost = run.lost })
     (sent_closing shape gci run prev next (shape.buckets / run.nodes.replicas) before following)
 
--- the owners cover after the close
-covered_closed : (shape : Shape) (gci : Bool) (run : Progress) → IsSound shape run → AllCovered shape.buckets (needed_of shape run) run.nodes → AllCovered shape.buckets (needed_of shape (closed shape gci run)) (closed shape gci run).nodes
-covered_closed shape gci run sound all =
-    let after = only_closed gci run in
-    let needed : needed_of shape after ≡ needed_of shape run =
-    ap (λ (bs : List EpochBody). needed_epoch (last_epoch bs) (epoch_after gci run.opened) (Closed run.opened ∷ run.journal)) (written_stays shape gci run sound)
-    ∙ needed_at_close (acknowledged_epoch shape run) run.opened (epoch_after gci run.opened) run.journal (acknowledged_below shape run sound) in
-    subst (λ (n : ℕ). AllCovered shape.buckets n (with_returns n run.nodes)) (sym needed) (covered_returns shape.buckets (needed_of shape run) run.nodes sound.nodes.owners all)
-
 -- a site whose epoch closed, however its parts are made
-pub site_closed : (shape : Shape) (gci : Bool) (old new : Site) (seen : ℕ → List ℕ) (run : Progress) (prev next : Epoch) → IsSite shape old seen run →
+pub site_closed : (shape : Shape) (gci : Bool) (old new : Site) (seen : ℕ → List ℕ) (run : Progress) (prev next : Epoch) → IsSite shape old seen run → closed_by old + 1 ≤ most_closed →
     prev.0 ≡ old.clock.previous → next.0 ≡ epoch_after gci old.clock.opened →
     new.id ≡ old.id → new.mapped ≡ old.mapped → new.clock ≡ record { opened = epoch_after gci old.clock.opened; previous = old.clock.opened; drawn = old.clock.drawn } →
     new.tables ≡ old.tables →
     ((b : ℕ) (n : Net) → HoldsNet old.nodes b n → HoldsNet new.nodes b (closed_net b prev.0 next.0 n)) →
-    new.events ≡ old.events → new.injector ≡ old.injector → new.made ≡ old.made → IsSite shape new seen (closed shape gci run)
-site_closed shape gci old new seen run prev next held is_prev is_next id mapped clock tables nodes events log made =
+    new.events ≡ old.events → new.injector ≡ old.injector → new.made ≡ old.made → new.closed ≡ old.closed + 1 → IsSite shape new seen (closed shape gci run)
+site_closed shape gci old new seen run prev next held room is_prev is_next id mapped clock tables nodes events log made count_closed =
     let o = run.opened in
-    let before : prev.0 ≡ previous_closed run.opened run.journal = is_prev ∙ ap (λ (h : Hand). h.previous) held.clock in
-    let after : next.0 ≡ epoch_after gci run.opened = is_next ∙ ap (λ (h : Hand). epoch_after gci h.opened) held.clock in
-    let bodies = written_stays shape gci run held.sound in
+    let was = held.rest in
+    let before : prev.0 ≡ previous_closed run.opened run.journal = is_prev ∙ ap (λ (h : Hand). h.previous) was.clock in
+    let after : next.0 ≡ epoch_after gci run.opened = is_next ∙ ap (λ (h : Hand). epoch_after gci h.opened) was.clock in
+    let bodies = written_stays shape gci run was.sound in
     record {
-      declared = held.declared;
-      sound = sound_close shape gci run held.sound;
-      fits = (tt, held.fits);
-      id = id ∙ held.id;
-      mapped = mapped ∙ held.mapped;
-      clock = clock
-          ∙ ap (λ (hand : Hand). record { opened = epoch_after gci hand.opened; previous = hand.opened; drawn = hand.drawn }) held.clock
-          ∙ ap (λ (p : ℕ). record { opened = epoch_after gci o; previous = p; drawn = run.drawn }) (sym (previous_of_next (epoch_after gci o) o run.journal (epoch_rises gci o)));
-      rows = λ t k. ap (λ (ts : _). rows_in ts t k) tables ∙ held.rows t k;
-      count = ap tables_in tables ∙ held.count;
-      net = subst (HoldsNet new.nodes shape.buckets) (net_closed shape gci run prev.0 next.0 before (buffered_after shape gci run prev.0 next.0 held.sound before after)) (nodes shape.buckets (net_of shape run) held.net);
-      covered = λ none. cover_at_site shape (closed shape gci run) (covered_closed shape gci run held.sound (cover_in_run shape run (held.covered none)));
+      rest = record {
+        declared = was.declared;
+        sound = sound_close shape gci run was.sound;
+        fits = (tt, was.fits);
+        id = id ∙ was.id;
+        mapped = mapped ∙ was.mapped;
+        clock = clock
+            ∙ ap (λ (hand : Hand). record { opened = epoch_after gci hand.opened; previous = hand.opened; drawn = hand.drawn }) was.clock
+            ∙ ap (λ (p : ℕ). record { opened = epoch_after gci o; previous = p; drawn = run.drawn }) (sym (previous_of_next (epoch_after gci o) o run.journal (epoch_rises gci o)));
+        rows = λ t k. ap (λ (ts : _). held_at ts t k) tables ∙ was.rows t k;
+        count = ap tables_in tables ∙ was.count;
+        net = subst (HoldsNet new.nodes shape.buckets) (net_closed shape gci run prev.0 next.0 before (buffered_after shape gci run prev.0 next.0 was.sound before after)) (nodes shape.buckets (net_of shape run) was.net);
+        covered = covered_close shape gci run was.sound was.covered;
+        made = made ∙ was.made ∙ own;
+        few = (let m = made in let few = was.few in omega arith);
+        closed = (let was_closed = was.closed in let more = length-append (closed_epochs run.journal) (run.opened ∷ []) in omega arith);
+        few_closed = omega arith;
+        few_applied = (let few = was.few_applied in let same = sum_by-cons (λ (entry : Entry). length (applied_of shape.site entry)) (Closed run.opened) run.journal in omega arith);
+      };
       events = subst (λ (b : EventBuffer). StandsFor b (fed_by shape run)) (sym events) held.events;
       log = subst (λ (its : Injector). inject.StandsFor its (setup_of shape its) (written_bodies shape (closed shape gci run)) seen) (sym log)
           (subst (λ (bs : List EpochBody). inject.StandsFor old.injector (setup_of shape old.injector) bs seen) (sym bodies) held.log);
-      made = made ∙ held.made ∙ counted;
-      few = (let m = made in let few = held.few in omega arith);
     }
   where
-    counted : sum_by (λ entry. length (changes_of shape.site entry)) run.journal ≡ sum_by (λ entry. length (changes_of shape.site entry)) (Closed run.opened ∷ run.journal)
-    counted = omega (arith, sum_by-cons (λ (entry : Entry). length (changes_of shape.site entry)) (Closed run.opened) run.journal)
+    own : own_changes run.journal ≡ own_changes (Closed run.opened ∷ run.journal)
+    own = omega (arith, sum_by-cons (λ (entry : Entry). length (own_of entry)) (Closed run.opened) run.journal)
 
 -- the same, with its answer
 pub close_is : (shape : Shape) (gci : Bool) (new : Site) (seen : ℕ → List ℕ) (run : Progress) (ended : Epoch) (sent : ℕ) → IsSite shape new seen (closed shape gci run) → ended.0 ≡ run.opened → sent ≡ count_in new.nodes →
@@ -157,4 +154,4 @@ pub close_is : (shape : Shape) (gci : Bool) (new : Site) (seen : ℕ → List �
 unfolding close_step
 close_is shape gci new seen run ended sent held is count =
     let e : ended ≡ record { 0 = run.opened } = ap (λ (n : ℕ). record { 0 = n }) is in
-    (held, ap (λ (x : Epoch). outcomes.Closed x sent) e ∙ ap (outcomes.Closed (record { 0 = run.opened })) (count ∙ ap length held.net.outbox.sent_is))
+    (held, ap (λ (x : Epoch). outcomes.Closed x sent) e ∙ ap (outcomes.Closed (record { 0 = run.opened })) (count ∙ ap length held.rest.net.outbox.sent_is))

@@ -12,10 +12,13 @@ use Rattle.rb_message_defs.specs.Message.{bucket_in}
 use Rattle.rb_message_defs.specs.Received.{Fed, answer_to}
 use Rattle.rb_evbuf.specs.Buffer.{StandsFor, buckets_of}
 use Rattle.rb_play_defs.specs.Step.{Progress, StepResult, unchanged, fed_by, delivered_message, answer_outcome, deliver_step}
-use Rattle.rb_play_defs.specs.Sound.{IsOwn}
+use Rattle.rb_play_defs.specs.Sound.{IsOwn, IsCovered}
 use Rattle.rb_play_defs.proofs.Takes.{of_sent, sound_delivered}
+use Rattle.rb_play_defs.proofs.Alike.{Alike, alike_deliver}
+use Rattle.rb_play_defs.proofs.Covering.{covered_delivered}
 use Rattle.rb_nodes.specs.Net.{Net, HoldsNet, count_in, delivered_net}
-use Rattle.rb_site.specs.Site.{IsSite, net_of}
+use Rattle.rb_site.specs.Site.{IsSite, rest_of, net_of}
+use Rattle.rb_site.proofs.RestLaws.{rest_alike}
 use Rattle.rb_site.specs.declared.site.Site.{Site}
 
 -- what stands at a place
@@ -30,8 +33,8 @@ some_message sent place message is = go (slice_get sent place) refl
 pub bucket_fits : (shape : Shape) (site : Site) (seen : ℕ → List ℕ) (run : Progress) (place : ℕ) (message : Message) → IsSite shape site seen run →
     ((b : ℕ) (n : Net) → HoldsNet site.nodes b n → option_map (λ sent. sent.message) (slice_get n.sent place) ≡ Some message) → bucket_in message < buckets_of site.events
 bucket_fits shape site seen run place message held is =
-    let (at, there, same) = some_message run.sent place message (is shape.buckets (net_of shape run) held.net) in
-    let own = of_sent (λ (s : Sent). IsOwn shape run.journal s.message) run.sent place at held.sound.sent there in
+    let (at, there, same) = some_message run.sent place message (is shape.buckets (net_of shape run) held.rest.net) in
+    let own = of_sent (λ (s : Sent). IsOwn shape run.journal s.message) run.sent place at held.rest.sound.sent there in
     let b : bucket_in at.message < shape.buckets = own.0 in
     let m : bucket_in at.message ≡ bucket_in message = ap bucket_in same in
     let e : site.events.buckets ≡ shape.buckets = held.events.buckets in
@@ -51,26 +54,17 @@ pub site_delivered : (shape : Shape) (old new : Site) (seen : ℕ → List ℕ) 
     new ≡ record old { nodes = new.nodes; events = new.events } →
     IsSite shape new seen (deliver_step shape place run).run × (answer_outcome answer ≡ (deliver_step shape place run).outcome)
 site_delivered shape old new seen run place message answer held is nodes answers events rest =
-    let (at, there, same) = some_message run.sent place message (is shape.buckets (net_of shape run) held.net) in
+    let (at, there, same) = some_message run.sent place message (is shape.buckets (net_of shape run) held.rest.net) in
     let step = deliver_there shape run place at there in
     let m : message ≡ at.message = sym same in
-    let after : IsSite shape (record old { nodes = new.nodes; events = new.events }) seen (delivered_message place at.message run) = record {
-      declared = held.declared;
-      sound = sound_delivered shape place run at held.sound there;
-      fits = held.fits;
-      id = held.id;
-      mapped = held.mapped;
-      clock = held.clock;
-      rows = held.rows;
-      count = held.count;
-      net = nodes shape.buckets (net_of shape run) held.net;
-      covered = held.covered;
+    let now : Progress = delivered_message place at.message run in
+    let after : IsSite shape (record old { nodes = new.nodes; events = new.events }) seen now = record {
+      rest = rest_alike shape (rest_of old) (rest_of (record old { nodes = new.nodes; events = new.events })) run now held.rest (subst (λ (s : StepResult). Alike run s.run) step (alike_deliver shape place run)) (sound_delivered shape place run at held.rest.sound there)
+          (nodes shape.buckets (net_of shape run) held.rest.net) (subst (λ (s : StepResult). IsCovered shape s.run) step (covered_delivered shape place run held.rest.covered)) refl;
       events = subst (λ (m : Message). StandsFor new.events (record { buckets = shape.buckets; last = run.last; received = m ∷ run.received })) m (events (fed_by shape run) held.events);
       log = held.log;
-      made = held.made;
-      few = held.few;
     } in (
-      subst (λ (s : StepResult). IsSite shape new seen s.run) (sym step) (subst (λ (s : Site). IsSite shape s seen (delivered_message place at.message run)) (sym rest) after),
+      subst (λ (s : StepResult). IsSite shape new seen s.run) (sym step) (subst (λ (s : Site). IsSite shape s seen now) (sym rest) after),
       ap answer_outcome (answers (fed_by shape run) held.events ∙ ap (answer_to (fed_by shape run)) m) ∙ sym (ap (λ (s : StepResult). s.outcome) step),
     )
 
@@ -84,7 +78,7 @@ pub not_delivered : (shape : Shape) (site : Site) (seen : ℕ → List ℕ) (run
     IsSite shape site seen (deliver_step shape place run).run × (outcomes.NoMessage place count ≡ (deliver_step shape place run).outcome)
 unfolding deliver_step
 not_delivered shape site seen run place count held is over =
-    let n : count ≡ length run.sent = is ∙ ap length held.net.outbox.sent_is in
+    let n : count ≡ length run.sent = is ∙ ap length held.rest.net.outbox.sent_is in
     let step : deliver_step shape place run ≡ unchanged run (outcomes.NoMessage place (length run.sent)) =
     ap (λ (x : Option Sent). option_map_or (λ sent. record { run = delivered_message place sent.message run; outcome = answer_outcome (answer_to (fed_by shape run) sent.message) }) x (unchanged run (outcomes.NoMessage place (length run.sent)))) (none_there run.sent place (omega arith)) in
     (subst (λ (s : StepResult). IsSite shape site seen s.run) (sym step) held, ap (outcomes.NoMessage place) n ∙ sym (ap (λ (s : StepResult). s.outcome) step))

@@ -11,31 +11,28 @@ use Rattle.rb_message_defs.specs.declared.answers.Missing.{Missing}
 use Rattle.rb_message_defs.specs.Received.{Fed, AreChained, missing_of}
 use Rattle.rb_message_defs.proofs.Chained.{are_chained}
 use Rattle.rb_evbuf.specs.Buffer.{StandsFor, last_of}
-use Rattle.rb_play_defs.specs.Step.{Progress, fed_by, takeable, worth_logging, written_bodies, last_epoch, acknowledged_epoch, with_taken, injected, missing_after, injection_of, inject_step}
-use Rattle.rb_play_defs.proofs.Takes.{takeable_rest, injected_more, injected_end, prefix_of}
-use Rattle.rb_play_defs.proofs.Covering.{acknowledged_rises}
+use Rattle.rb_play_defs.specs.Step.{Progress, fed_by, takeable, worth_logging, written_bodies, last_written, with_taken, with_all_taken, injected, missing_after, injection_of, inject_step}
+use Rattle.rb_play_defs.proofs.Takes.{takeable_rest, taken_more, taken_end, prefix_of, sound_acknowledged, sound_injected}
 use Rattle.rb_inject.specs.Injector as inject
 use Rattle.rb_inject.specs.declared.injector.Injector.{Injector}
 use Rattle.rb_evbuf.specs.declared.buffer.EventBuffer.{EventBuffer}
-use Rattle.rb_play_defs.specs.Sound.{IsSound}
-use Rattle.rb_play_defs.proofs.Covering.{IsCovered, covered_taken, acknowledged_below}
-use Rattle.rb_play_defs.proofs.Takes.{sound_taken}
+use Rattle.rb_play_defs.proofs.Covering.{written_below, covered_all_taken, covered_injected}
 use Rattle.rb_site.specs.Inject.{IsInjectorAt, HasTaken}
 use Rattle.rb_nodes.specs.Net.{Net, HoldsNet, acknowledged_net, CanAcknowledge}
-use Rattle.rb_site.specs.Site.{IsSite, net_of, net_at, setup_of, most_made}
-use Rattle.rb_site.specs.Stepped.{IsStoppedSite, site_of}
+use Rattle.rb_site.specs.Site.{IsSite, IsStoppedSite, net_of, setup_of, most_closed}
+use Rattle.rb_site.specs.Stepped.{site_of}
+use Rattle.rb_site.proofs.RestLaws.{rest_alike}
 use Rattle.rb_nodes.specs.declared.site_nodes.SiteNodes.{SiteNodes}
 use Rattle.rb_site.specs.declared.stepped.StoppedSite.{StoppedSite}
 use Rattle.rb_site.proofs.InjectLaws.{written_small}
 use Rattle.rb_site.proofs.LogLaws.{written_epoch}
 use Rattle.rb_site.proofs.StandLaws.{site_stands}
-use Rattle.rb_site.proofs.TakeLaws.{owners_covered, run_covered}
 
 -- some of the epochs are taken
 pub record IsTurning (shape : Shape) (run : Progress) (events : EventBuffer) (its : Injector) (seen : ℕ → List ℕ) (count : ℕ) : Type 0 where
   pub now : Progress
   pub held : IsInjectorAt shape events its seen now
-  pub goal : injected shape now ≡ injected shape run
+  pub goal : with_all_taken shape now ≡ with_all_taken shape run
   pub journal : now.journal ≡ run.journal
   pub least : run.written ≤ now.written
   pub counted : count + length (worth_logging shape now.journal (takeable shape now)) ≡ length (worth_logging shape run.journal (takeable shape run))
@@ -60,7 +57,7 @@ turn_more shape run events new its next seen after count more logged turning (e,
     record {
       now = with_taken shape now e;
       held = held;
-      goal = sym (injected_more shape now e rest sound front) ∙ turning.goal;
+      goal = sym (taken_more shape now e rest sound front) ∙ turning.goal;
       journal = turning.journal;
       least = omega arith;
       counted = omega arith;
@@ -86,73 +83,65 @@ turn_rises shape run events new its next seen after count logged turning (e, res
     omega arith
 
 -- how many are logged is a small number
-pub turn_few : (shape : Shape) (run : Progress) (events : EventBuffer) (its : Injector) (seen : ℕ → List ℕ) (count : ℕ) → IsTurning shape run events its seen count → count ≤ most_made
+pub turn_few : (shape : Shape) (run : Progress) (events : EventBuffer) (its : Injector) (seen : ℕ → List ℕ) (count : ℕ) → IsTurning shape run events its seen count → count ≤ most_closed
 turn_few shape run events its seen count turning =
     let held = turning.held in
-    omega (arith, turning.few, written_small shape turning.now held.declared held.sound held.few)
+    omega (arith, turning.few, written_small shape turning.now held.sound held.few_closed)
 
 -- no epoch is left
 pub turn_ends : (shape : Shape) (run : Progress) (events new : EventBuffer) (its next : Injector) (seen after : ℕ → List ℕ) (count : ℕ) (turning : IsTurning shape run events its seen count) → HasTaken shape turning.now new next after None →
-    IsInjectorAt shape new next after (injected shape run) × (count ≡ length (worth_logging shape run.journal (takeable shape run)))
+    IsInjectorAt shape new next after (with_all_taken shape run) × (count ≡ length (worth_logging shape run.journal (takeable shape run)))
 turn_ends shape run events new its next seen after count turning (none, held) =
     let z : length (worth_logging shape turning.now.journal (takeable shape turning.now)) ≡ 0 = ap (λ (es : List ℕ). length (worth_logging shape turning.now.journal es)) none in
     let counted = turning.counted in
-    let end : turning.now ≡ injected shape run = sym (injected_end shape turning.now none) ∙ turning.goal in
+    let end : turning.now ≡ with_all_taken shape run = sym (taken_end shape turning.now none) ∙ turning.goal in
     (subst (IsInjectorAt shape new next after) end held, omega arith)
 
--- `inject` leaves all buckets covered, and the acknowledged epoch never falls
-turn_keeps : (shape : Shape) (run : Progress) (es : List ℕ) → IsSound shape run → takeable shape run ≡ es → IsCovered shape run → IsCovered shape (injected shape run) × (acknowledged_epoch shape run ≤ acknowledged_epoch shape (injected shape run))
-turn_keeps shape run [] sound same covered = subst (λ (p : Progress). IsCovered shape p × (acknowledged_epoch shape run ≤ acknowledged_epoch shape p)) (sym (injected_end shape run same)) (covered, omega arith)
-turn_keeps shape run (e ∷ rest) sound same covered =
-    let rest_keeps = turn_keeps shape (with_taken shape run e) rest (sound_taken shape run e rest sound same) (takeable_rest shape run e rest sound same) (covered_taken shape run e rest sound same covered) in
-    let more : acknowledged_epoch shape (with_taken shape run e) ≤ acknowledged_epoch shape (injected shape (with_taken shape run e)) = rest_keeps.1 in
-    let rises = acknowledged_rises shape run e rest sound same in
-    subst (λ (p : Progress). IsCovered shape p × (acknowledged_epoch shape run ≤ acknowledged_epoch shape p)) (sym (injected_more shape run e rest sound same))
-    (rest_keeps.0, omega arith)
+-- the injector after the epochs were taken is that after `inject`
+pub injector_told : (shape : Shape) (events : EventBuffer) (its : Injector) (seen : ℕ → List ℕ) (run : Progress) → IsInjectorAt shape events its seen (with_all_taken shape run) → IsInjectorAt shape events its seen (injected shape run)
+injector_told shape events its seen run held = record {
+  declared = held.declared;
+  sound = sound_acknowledged shape (with_all_taken shape run) (last_written shape (with_all_taken shape run)) held.sound;
+  fits = held.fits;
+  few = held.few;
+  few_closed = held.few_closed;
+  fed = held.fed;
+  log = held.log;
+}
 
 -- the nodes can learn the last epoch that is written
-pub can_acknowledge : (shape : Shape) (rest : StoppedSite) (events : EventBuffer) (its : Injector) (seen : ℕ → List ℕ) (run : Progress) → IsStoppedSite shape rest run → IsInjectorAt shape events its seen (injected shape run) →
+pub can_acknowledge : (shape : Shape) (rest : StoppedSite) (events : EventBuffer) (its : Injector) (seen : ℕ → List ℕ) (run : Progress) → IsStoppedSite shape rest run → IsInjectorAt shape events its seen (with_all_taken shape run) →
     CanAcknowledge rest.nodes (inject.written_of its)
 can_acknowledge shape rest events its seen run held turned =
-    let is = written_epoch its (setup_of shape its) (written_bodies shape (injected shape run)) seen turned.log in
-    let below = acknowledged_below shape (injected shape run) turned.sound in
+    let is = written_epoch its (setup_of shape its) (written_bodies shape (with_all_taken shape run)) seen turned.log in
+    let below = written_below shape (with_all_taken shape run) turned.sound in
     (shape.buckets, net_of shape run, held.net, omega arith)
 
 -- and were
-pub rest_turned : (shape : Shape) (rest : StoppedSite) (nodes : SiteNodes) (events : EventBuffer) (its : Injector) (seen : ℕ → List ℕ) (run : Progress) (through : ℕ) → IsStoppedSite shape rest run → IsInjectorAt shape events its seen (injected shape run) →
+pub rest_turned : (shape : Shape) (rest : StoppedSite) (nodes : SiteNodes) (events : EventBuffer) (its : Injector) (seen : ℕ → List ℕ) (run : Progress) (through : ℕ) → IsStoppedSite shape rest run → IsInjectorAt shape events its seen (with_all_taken shape run) →
     through ≡ inject.written_of its →
     ((b : ℕ) (n : Net) → HoldsNet rest.nodes b n → HoldsNet nodes b (acknowledged_net through n)) →
     IsStoppedSite shape (record rest { nodes = nodes }) (injected shape run)
 rest_turned shape rest nodes events its seen run through held turned is told =
-    let keeps = turn_keeps shape run (takeable shape run) held.sound refl (run_covered shape run held.covered) in
-    let last : through ≡ acknowledged_epoch shape (injected shape run) = is ∙ written_epoch its (setup_of shape its) (written_bodies shape (injected shape run)) seen turned.log in
-    record {
-      declared = held.declared;
-      sound = turned.sound;
-      fits = held.fits;
-      id = held.id;
-      mapped = held.mapped;
-      clock = held.clock;
-      rows = held.rows;
-      count = held.count;
-      net = subst (λ (epoch : ℕ). HoldsNet nodes shape.buckets (net_at epoch shape run)) (ap (max (acknowledged_epoch shape run)) last ∙ max-eq_right keeps.1) (told shape.buckets (net_of shape run) held.net);
-      covered = owners_covered shape (injected shape run) keeps.0;
-      made = held.made;
-      few = held.few;
-    }
+    let last : through ≡ last_written shape (with_all_taken shape run) = is ∙ written_epoch its (setup_of shape its) (written_bodies shape (with_all_taken shape run)) seen turned.log in
+    let taken = covered_all_taken shape run (takeable shape run) held.sound refl held.covered in
+    let least : run.acknowledged ≤ last_written shape (with_all_taken shape run) = taken.told in
+    let net : HoldsNet nodes shape.buckets (net_of shape (injected shape run)) =
+    subst (λ (epoch : ℕ). HoldsNet nodes shape.buckets (net_of shape (record (injected shape run) { acknowledged = epoch }))) (ap (max run.acknowledged) last ∙ max-eq_right least) (told shape.buckets (net_of shape run) held.net) in
+    rest_alike shape rest (record rest { nodes = nodes }) run (injected shape run) held (record { journal = refl; opened = refl; drawn = refl }) (sound_injected shape run held.sound) net (covered_injected shape run held.sound held.covered) refl
 
 -- the site after `inject`, and the outcome
 pub turn_outcome : (shape : Shape) (run : Progress) (rest : StoppedSite) (events : EventBuffer) (its : Injector) (seen : ℕ → List ℕ) (count : ℕ) (written : Epoch) (found : Option Missing) (missing : Missing) → IsStoppedSite shape rest (injected shape run) →
-    IsInjectorAt shape events its seen (injected shape run) → written.0 ≡ inject.written_of its → count ≡ length (worth_logging shape run.journal (takeable shape run)) →
+    IsInjectorAt shape events its seen (with_all_taken shape run) → written.0 ≡ inject.written_of its → count ≡ length (worth_logging shape run.journal (takeable shape run)) →
     ((fed : Fed) → StandsFor events fed → AreChained fed.received → found ≡ missing_of fed) → missing ≡ unwrap_or found (record { bucket = 0; place = None }) →
     IsSite shape (site_of rest events its) seen (inject_step shape run).run × (outcomes.Wrote count written missing.bucket missing.place ≡ (inject_step shape run).outcome)
 unfolding inject_step injection_of
 turn_outcome shape run rest events its seen count written found missing held turned last counted answers is =
     let after = injected shape run in
-    let through : written ≡ record { 0 = last_epoch (written_bodies shape after) } = ap (λ (n : ℕ). record { 0 = n }) (last ∙ written_epoch its (setup_of shape its) (written_bodies shape after) seen turned.log) in
+    let through : written ≡ record { 0 = last_written shape after } = ap (λ (n : ℕ). record { 0 = n }) (last ∙ written_epoch its (setup_of shape its) (written_bodies shape after) seen turned.log) in
     let there : missing ≡ missing_after shape after = is ∙ ap (λ (o : Option Missing). unwrap_or o (record { bucket = 0; place = None })) (answers (fed_by shape after) turned.fed (are_chained shape after.opened after.journal after.received held.sound.order held.sound.received)) in (
       site_stands shape rest events its seen after held turned.fed turned.log,
       ap (λ (n : ℕ). outcomes.Wrote n written missing.bucket missing.place) counted
           ∙ ap (λ (x : Epoch). outcomes.Wrote (length (worth_logging shape run.journal (takeable shape run))) x missing.bucket missing.place) through
-          ∙ ap (λ (m : Missing). outcomes.Wrote (length (worth_logging shape run.journal (takeable shape run))) (record { 0 = last_epoch (written_bodies shape after) }) m.bucket m.place) there,
+          ∙ ap (λ (m : Missing). outcomes.Wrote (length (worth_logging shape run.journal (takeable shape run))) (record { 0 = last_written shape after }) m.bucket m.place) there,
     )

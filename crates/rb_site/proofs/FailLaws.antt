@@ -8,7 +8,6 @@ use Rattle.rb_base.specs.declared.message.Sent.{Sent}
 use Rattle.rb_base.specs.declared.outcome.Outcome.{Outcome}
 use Rattle.rb_base.specs.declared.outcome.Outcome.TheVariants as outcomes
 use Rattle.rb_journal_defs.specs.Body.{Shape}
-use Rattle.rb_commit.specs.Hand.{Hand}
 use Rattle.rb_message_defs.specs.Nodes as members
 use Rattle.rb_message_defs.specs.Nodes.{node_at, group_of, successor_of, owned_by, with_failure, with_restart, with_owner}
 use Rattle.rb_group.specs.declared.answers.GroupFault.{GroupFault}
@@ -18,78 +17,55 @@ use Rattle.rb_nodes.specs.Net.{Net, HoldsNet, count_in, taken_over_net, lost_net
 use Rattle.rb_nodes.specs.declared.answers.NodeFailure.{NodeFailure}
 use Rattle.rb_nodes.specs.declared.answers.NodeFailure.TheVariants as failures
 use Rattle.rb_nodes.specs.declared.site_nodes.SiteNodes.{SiteNodes}
-use Rattle.rb_play_defs.specs.Step.{Progress, StepResult, unchanged, needed_of, sent_by_owners, taken_over, takeover_step, loss_step, fail_step, restart_step, resend_step}
-use Rattle.rb_play_defs.specs.Sound.{IsSound}
-use Rattle.rb_play_defs.proofs.Sounds.{sound_takeover, sound_loss, sound_restart, sound_resend}
-use Rattle.rb_play_defs.proofs.Covering.{AllCovered, covered_restart, covered_takeover}
-use Rattle.rb_site.specs.Site.{IsSite, buffered_by, net_of, opened_of}
+use Rattle.rb_play_defs.specs.Step.{Progress, StepResult, unchanged, fed_by, needed_of, sent_by_owners, taken_over, takeover_step, loss_step, fail_step, restart_step, resend_step}
+use Rattle.rb_play_defs.specs.Sound.{IsSound, IsCovered}
+use Rattle.rb_play_defs.proofs.Sounds.{sound_fail, sound_restart, sound_resend}
+use Rattle.rb_play_defs.proofs.Alike.{Alike, alike_self, alike_fail, alike_restart, alike_resend}
+use Rattle.rb_play_defs.proofs.Covering.{covered_fail, covered_restarted, covered_resend}
+use Rattle.rb_site.specs.Site.{IsSite, IsStoppedSite, rest_of, buffered_by, net_of}
+use Rattle.rb_site.specs.declared.stepped.StoppedSite.{StoppedSite}
+use Rattle.rb_site.proofs.RestLaws.{site_moved}
+use Rattle.rb_site.proofs.StandLaws.{opened_low}
 use Rattle.rb_site.specs.declared.site.Site.{Site}
 use Rattle.rb_site.proofs.ShareLaws.{needed_share}
-use Rattle.rb_site.proofs.PointLaws.{can_count, cover_at_site, cover_in_run}
+use Rattle.rb_site.proofs.PointLaws.{can_count, cover_at_site}
 use Rattle.rb_site.proofs.AgainLaws.{sent_taking_over, sent_resending}
 
 -- what these events need of the nodes
 pub can_fail : (shape : Shape) (old : Site) (seen : ℕ → List ℕ) (run : Progress) (node : ℕ) → IsSite shape old seen run → node < shape.buckets → CanFail old.nodes node
-can_fail shape old seen run node held below = (shape.buckets, net_of shape run, held.net, below, can_count shape old seen run held)
+can_fail shape old seen run node held below = (shape.buckets, net_of shape run, held.rest.net, below, can_count shape (rest_of old) run held.rest)
 
-pub can_restart : (shape : Shape) (old : Site) (seen : ℕ → List ℕ) (run : Progress) (node : ℕ) → IsSite shape old seen run → node < shape.buckets → opened_of old + 1 < 2 ^ 64 → CanRestart old.nodes node
-can_restart shape old seen run node held below room =
-    let opened : old.clock.opened ≡ run.opened = ap (λ (hand : Hand). hand.opened) held.clock in
-    (shape.buckets, net_of shape run, held.net, below, omega arith)
+pub can_restart : (shape : Shape) (old : Site) (seen : ℕ → List ℕ) (run : Progress) (node : ℕ) → IsSite shape old seen run → node < shape.buckets → CanRestart old.nodes node
+can_restart shape old seen run node held below =
+    let low = opened_low shape (rest_of old) run held.rest in
+    (shape.buckets, net_of shape run, held.rest.net, below, omega arith)
 
-pub can_resend : (shape : Shape) (old : Site) (seen : ℕ → List ℕ) (run : Progress) → IsSite shape old seen run → run.lost ≡ None → CanResend old.nodes
-can_resend shape old seen run held none = (shape.buckets, net_of shape run, held.net, held.covered none, can_count shape old seen run held)
+pub rest_can_resend : (shape : Shape) (rest : StoppedSite) (run : Progress) → IsStoppedSite shape rest run → run.lost ≡ None → CanResend rest.nodes
+rest_can_resend shape rest run held none = (shape.buckets, net_of shape run, held.net, cover_at_site shape run (held.covered.owners none), can_count shape rest run held)
 
 -- a node of a site is one of its nodes, whichever run it represents
 pub still_below : (shape other : Shape) (old : Site) (seen written : ℕ → List ℕ) (run now : Progress) (node : ℕ) → IsSite shape old seen run → node < shape.buckets → IsSite other old written now → node < other.buckets
 still_below shape other old seen written run now node held below also =
-    let one = held.net.groups.buckets_are in
-    let two = also.net.groups.buckets_are in
+    let one = held.rest.net.groups.buckets_are in
+    let two = also.rest.net.groups.buckets_are in
     omega arith
 
--- a site whose nodes changed, and that may have lost a group
-pub site_moved : (shape : Shape) (old new : Site) (seen : ℕ → List ℕ) (run : Progress) (sent : List Sent) (nodes : members.Nodes) (lost : Option (ℕ × ℕ)) → IsSite shape old seen run →
-    IsSound shape (record run { sent = sent; nodes = nodes; lost = lost }) →
-    HoldsNet new.nodes shape.buckets (net_of shape (record run { sent = sent; nodes = nodes; lost = lost })) →
-    (lost ≡ None → AllCovered shape.buckets (needed_of shape run) nodes) →
-    new ≡ record old { nodes = new.nodes } →
-    IsSite shape new seen (record run { sent = sent; nodes = nodes; lost = lost })
-site_moved shape old new seen run sent nodes lost held sound stands covered rest =
-    let now : Progress = record run { sent = sent; nodes = nodes; lost = lost } in
-    let after : IsSite shape (record old { nodes = new.nodes }) seen now = record {
-      declared = held.declared;
-      sound = sound;
-      fits = held.fits;
-      id = held.id;
-      mapped = held.mapped;
-      clock = held.clock;
-      rows = held.rows;
-      count = held.count;
-      net = stands;
-      covered = λ none. cover_at_site shape now (covered none);
-      events = held.events;
-      log = held.log;
-      made = held.made;
-      few = held.few;
-    } in
-    subst (λ (s : Site). IsSite shape s seen now) (sym rest) after
-
 -- the step of a failure: a successor takes over, the group is lost, or the node is down already
-step_takes_over : (shape : Shape) (node successor : ℕ) (run : Progress) → (node_at run.nodes node).up ≡ true → successor_of run.nodes (needed_of shape run) node ≡ Some successor → fail_step shape node run ≡ takeover_step shape node successor run
+step_takes_over : (shape : Shape) (node successor : ℕ) (run : Progress) → (node_at run.nodes node).up ≡ true → successor_of run.nodes (needed_of run) node ≡ Some successor → fail_step shape node run ≡ takeover_step shape node successor run
 unfolding fail_step
 step_takes_over shape node successor run up is =
-    ap (λ (b : Bool). if b then option_map_or (λ other. takeover_step shape node other run) (successor_of run.nodes (needed_of shape run) node) (loss_step shape node run) else unchanged run (outcomes.NodeDown node)) up
+    ap (λ (b : Bool). if b then option_map_or (λ other. takeover_step shape node other run) (successor_of run.nodes (needed_of run) node) (loss_step shape node run) else unchanged run (outcomes.NodeDown node)) up
     ∙ ap (λ (o : Option ℕ). option_map_or (λ other. takeover_step shape node other run) o (loss_step shape node run)) is
 
-step_loses : (shape : Shape) (node : ℕ) (run : Progress) → (node_at run.nodes node).up ≡ true → successor_of run.nodes (needed_of shape run) node ≡ None → fail_step shape node run ≡ loss_step shape node run
+step_loses : (shape : Shape) (node : ℕ) (run : Progress) → (node_at run.nodes node).up ≡ true → successor_of run.nodes (needed_of run) node ≡ None → fail_step shape node run ≡ loss_step shape node run
 unfolding fail_step
 step_loses shape node run up is =
-    ap (λ (b : Bool). if b then option_map_or (λ other. takeover_step shape node other run) (successor_of run.nodes (needed_of shape run) node) (loss_step shape node run) else unchanged run (outcomes.NodeDown node)) up
+    ap (λ (b : Bool). if b then option_map_or (λ other. takeover_step shape node other run) (successor_of run.nodes (needed_of run) node) (loss_step shape node run) else unchanged run (outcomes.NodeDown node)) up
     ∙ ap (λ (o : Option ℕ). option_map_or (λ other. takeover_step shape node other run) o (loss_step shape node run)) is
 
 step_was_down : (shape : Shape) (node : ℕ) (run : Progress) → (node_at run.nodes node).up ≡ false → fail_step shape node run ≡ unchanged run (outcomes.NodeDown node)
 unfolding fail_step
-step_was_down shape node run down = ap (λ (b : Bool). if b then option_map_or (λ other. takeover_step shape node other run) (successor_of run.nodes (needed_of shape run) node) (loss_step shape node run) else unchanged run (outcomes.NodeDown node)) down
+step_was_down shape node run down = ap (λ (b : Bool). if b then option_map_or (λ other. takeover_step shape node other run) (successor_of run.nodes (needed_of run) node) (loss_step shape node run) else unchanged run (outcomes.NodeDown node)) down
 
 -- the step of a restart
 step_restarts : (node : ℕ) (run : Progress) → (node_at run.nodes node).up ≡ false → restart_step node run ≡ record { run = record run { nodes = with_restart node run.opened run.nodes }; outcome = outcomes.Restarted (record { 0 = run.opened + 1 }) }
@@ -125,13 +101,13 @@ failure_outcome (failures.Takeover count) sent = outcomes.Failed count sent
 failure_outcome (failures.Lost group epoch) sent = outcomes.Lost group epoch
 
 -- what the nodes show of a failure is what the run says of it
-failed_by : (shape : Shape) (run : Progress) (node : ℕ) (found : Option ℕ) → successor_of run.nodes (needed_of shape run) node ≡ found → failed_net shape.buckets node (net_of shape run) ≡ option_map_or (λ successor. taken_over_net shape.buckets node successor (net_of shape run)) found (lost_net node (net_of shape run))
+failed_by : (shape : Shape) (run : Progress) (node : ℕ) (found : Option ℕ) → successor_of run.nodes (needed_of run) node ≡ found → failed_net shape.buckets node (net_of shape run) ≡ option_map_or (λ successor. taken_over_net shape.buckets node successor (net_of shape run)) found (lost_net node (net_of shape run))
 failed_by shape run node found is =
     ap (λ (o : Option ℕ). option_map_or (λ successor. taken_over_net shape.buckets node successor (net_of shape run)) o (lost_net node (net_of shape run)))
     (ap (λ (n : ℕ). successor_of run.nodes n node) (needed_share shape run 0) ∙ is)
 
-failure_by : (shape : Shape) (run : Progress) (node : ℕ) (found : Option ℕ) → successor_of run.nodes (needed_of shape run) node ≡ found →
-    failure_of node (net_of shape run) ≡ option_map_or (λ successor. failures.Takeover (length (owned_by run.nodes node))) found (failures.Lost (group_of run.nodes node) (record { 0 = needed_of shape run }))
+failure_by : (shape : Shape) (run : Progress) (node : ℕ) (found : Option ℕ) → successor_of run.nodes (needed_of run) node ≡ found →
+    failure_of node (net_of shape run) ≡ option_map_or (λ successor. failures.Takeover (length (owned_by run.nodes node))) found (failures.Lost (group_of run.nodes node) (record { 0 = needed_of run }))
 failure_by shape run node found is =
     ap (λ (o : Option ℕ). option_map_or (λ successor. failures.Takeover (length (owned_by run.nodes node))) o (failures.Lost (group_of run.nodes node) (record { 0 = needed_by (buffered_by shape run) })))
     (ap (λ (n : ℕ). successor_of run.nodes n node) (needed_share shape run 0) ∙ is)
@@ -161,38 +137,43 @@ net_lost shape run node =
 pub site_failed : (shape : Shape) (old new : Site) (seen : ℕ → List ℕ) (run : Progress) (node : ℕ) (failure : NodeFailure) → IsSite shape old seen run → run.lost ≡ None →
     Fails old.nodes new.nodes node failure → new ≡ record old { nodes = new.nodes } →
     IsSite shape new seen (fail_step shape node run).run × (failure_outcome failure (count_in new.nodes) ≡ (fail_step shape node run).outcome)
-site_failed shape old new seen run node failure held none failed rest = go (successor_of run.nodes (needed_of shape run) node) refl
+site_failed shape old new seen run node failure held none failed rest = go (successor_of run.nodes (needed_of run) node) refl
   where
     shown : ((node_at run.nodes node).up ≡ true) × (failure ≡ failure_of node (net_of shape run)) × HoldsNet new.nodes shape.buckets (failed_net shape.buckets node (net_of shape run))
-    shown = failed shape.buckets (net_of shape run) held.net
+    shown = failed shape.buckets (net_of shape run) held.rest.net
 
-    go : (found : Option ℕ) → successor_of run.nodes (needed_of shape run) node ≡ found → IsSite shape new seen (fail_step shape node run).run × (failure_outcome failure (count_in new.nodes) ≡ (fail_step shape node run).outcome)
+    -- the site after the step, by what the step is
+    by_step : (step : StepResult) → fail_step shape node run ≡ step → HoldsNet new.nodes shape.buckets (net_of shape step.run) → fed_by shape step.run ≡ fed_by shape run → step.run.written ≡ run.written →
+        failure_outcome failure (count_in new.nodes) ≡ step.outcome → IsSite shape new seen (fail_step shape node run).run × (failure_outcome failure (count_in new.nodes) ≡ (fail_step shape node run).outcome)
+    by_step step is stands fed written outcome =
+        at_step shape new seen (fail_step shape node run) step (failure_outcome failure (count_in new.nodes)) is
+        (site_moved shape old new seen run step.run held (subst (λ (s : StepResult). Alike run s.run) is (alike_fail shape node run)) (subst (λ (s : StepResult). IsSound shape s.run) is (sound_fail shape node run held.rest.sound)) stands
+        (subst (λ (s : StepResult). IsCovered shape s.run) is (covered_fail shape node run held.rest.sound held.rest.covered)) fed written rest)
+        outcome
+
+    go : (found : Option ℕ) → successor_of run.nodes (needed_of run) node ≡ found → IsSite shape new seen (fail_step shape node run).run × (failure_outcome failure (count_in new.nodes) ≡ (fail_step shape node run).outcome)
     go (Some successor) is =
         let stands : HoldsNet new.nodes shape.buckets (net_of shape (taken_over shape node successor run)) =
-        subst (HoldsNet new.nodes shape.buckets) (failed_by shape run node (Some successor) is ∙ net_taken_over shape run old.nodes node successor held.net) shown.2 in
+        subst (HoldsNet new.nodes shape.buckets) (failed_by shape run node (Some successor) is ∙ net_taken_over shape run old.nodes node successor held.rest.net) shown.2 in
         let did : failure ≡ failures.Takeover (length (owned_by run.nodes node)) = shown.1 ∙ failure_by shape run node (Some successor) is in
-        at_step shape new seen (fail_step shape node run) (takeover_step shape node successor run) (failure_outcome failure (count_in new.nodes)) (step_takes_over shape node successor run shown.0 is)
-        (site_moved shape old new seen run (taken_over shape node successor run).sent (taken_over shape node successor run).nodes run.lost held (sound_takeover shape node successor run held.sound) stands
-        (λ still. covered_takeover shape.buckets (needed_of shape run) node successor (length run.sent) run.nodes held.sound.nodes.owners is (cover_in_run shape run (held.covered still))) rest)
+        by_step (takeover_step shape node successor run) (step_takes_over shape node successor run shown.0 is) stands refl refl
         (ap (λ (f : NodeFailure). failure_outcome f (count_in new.nodes)) did ∙ ap (outcomes.Failed (length (owned_by run.nodes node))) (ap length stands.outbox.sent_is))
     go None is =
         let stands : HoldsNet new.nodes shape.buckets (net_of shape (loss_step shape node run).run) = subst (HoldsNet new.nodes shape.buckets) (failed_by shape run node None is ∙ net_lost shape run node) shown.2 in
-        let did : failure ≡ failures.Lost (group_of run.nodes node) (record { 0 = needed_of shape run }) = shown.1 ∙ failure_by shape run node None is in
-        at_step shape new seen (fail_step shape node run) (loss_step shape node run) (failure_outcome failure (count_in new.nodes)) (step_loses shape node run shown.0 is)
-        (site_moved shape old new seen run run.sent (with_failure node (length run.sent) run.nodes) (Some (group_of run.nodes node, needed_of shape run)) held (sound_loss shape node run held.sound) stands
-        (λ still. absurd (let no : Some (group_of run.nodes node, needed_of shape run) ≡ None = still in cc)) rest)
+        let did : failure ≡ failures.Lost (group_of run.nodes node) (record { 0 = needed_of run }) = shown.1 ∙ failure_by shape run node None is in
+        by_step (loss_step shape node run) (step_loses shape node run shown.0 is) stands refl refl
         (ap (λ (f : NodeFailure). failure_outcome f (count_in new.nodes)) did)
 
 -- a site whose nodes represent the same
-site_stays : (shape : Shape) (old new : Site) (seen : ℕ → List ℕ) (run : Progress) → IsSite shape old seen run → HoldsNet new.nodes shape.buckets (net_of shape run) → new ≡ record old { nodes = new.nodes } → IsSite shape new seen run
-site_stays shape old new seen run held stands rest = site_moved shape old new seen run run.sent run.nodes run.lost held held.sound stands (λ none. cover_in_run shape run (held.covered none)) rest
+pub site_stays : (shape : Shape) (old new : Site) (seen : ℕ → List ℕ) (run : Progress) → IsSite shape old seen run → HoldsNet new.nodes shape.buckets (net_of shape run) → new ≡ record old { nodes = new.nodes } → IsSite shape new seen run
+site_stays shape old new seen run held stands rest = site_moved shape old new seen run run held (alike_self run) held.rest.sound stands held.rest.covered refl refl rest
 
 -- a site whose node was down already
 pub site_was_down : (shape : Shape) (old new : Site) (seen : ℕ → List ℕ) (run : Progress) (node other : ℕ) → IsSite shape old seen run →
     FailureRefused old.nodes new.nodes node (faults.NodeDown other) → new ≡ record old { nodes = new.nodes } →
     IsSite shape new seen (fail_step shape node run).run × (outcomes.NodeDown other ≡ (fail_step shape node run).outcome)
 site_was_down shape old new seen run node other held refused rest =
-    let (same, down, stands) = refused shape.buckets (net_of shape run) held.net in
+    let (same, down, stands) = refused shape.buckets (net_of shape run) held.rest.net in
     at_step shape new seen (fail_step shape node run) (unchanged run (outcomes.NodeDown node)) (outcomes.NodeDown other) (step_was_down shape node run down)
     (site_stays shape old new seen run held stands rest) (ap outcomes.NodeDown same)
 
@@ -202,11 +183,12 @@ pub site_restarted : (shape : Shape) (old new : Site) (seen : ℕ → List ℕ) 
     new ≡ record old { nodes = new.nodes } →
     IsSite shape new seen (restart_step node run).run × (outcomes.Restarted since ≡ (restart_step node run).outcome)
 site_restarted shape old new seen run node since held restarted rest =
-    let (since_is, down, stands) = restarted shape.buckets (net_of shape run) held.net in
+    let (since_is, down, stands) = restarted shape.buckets (net_of shape run) held.rest.net in
     let step = step_restarts node run down in
-    at_step shape new seen (restart_step node run) (record { run = record run { nodes = with_restart node run.opened run.nodes }; outcome = outcomes.Restarted (record { 0 = run.opened + 1 }) }) (outcomes.Restarted since) step
-    (site_moved shape old new seen run run.sent (with_restart node run.opened run.nodes) run.lost held (subst (λ (s : StepResult). IsSound shape s.run) step (sound_restart shape node run held.sound)) stands
-    (λ none. covered_restart shape.buckets (needed_of shape run) node run.opened run.nodes down (cover_in_run shape run (held.covered none))) rest)
+    let after : StepResult = record { run = record run { nodes = with_restart node run.opened run.nodes }; outcome = outcomes.Restarted (record { 0 = run.opened + 1 }) } in
+    at_step shape new seen (restart_step node run) after (outcomes.Restarted since) step
+    (site_moved shape old new seen run after.run held (subst (λ (s : StepResult). Alike run s.run) step (alike_restart node run)) (subst (λ (s : StepResult). IsSound shape s.run) step (sound_restart shape node run held.rest.sound)) stands
+    (subst (λ (s : StepResult). IsCovered shape s.run) step (covered_restarted shape node run held.rest.covered)) refl refl rest)
     (ap (λ (n : ℕ). outcomes.Restarted (record { 0 = n })) since_is)
 
 -- a site whose node was up already
@@ -214,7 +196,7 @@ pub site_was_up : (shape : Shape) (old new : Site) (seen : ℕ → List ℕ) (ru
     RestartRefused old.nodes new.nodes node (faults.NodeUp other) → new ≡ record old { nodes = new.nodes } →
     IsSite shape new seen (restart_step node run).run × (outcomes.NodeUp other ≡ (restart_step node run).outcome)
 site_was_up shape old new seen run node other held refused rest =
-    let (stands, fault) = refused shape.buckets (net_of shape run) held.net in
+    let (stands, fault) = refused shape.buckets (net_of shape run) held.rest.net in
     let (same, up) = fault in
     at_step shape new seen (restart_step node run) (unchanged run (outcomes.NodeUp node)) (outcomes.NodeUp other) (step_was_up node run up)
     (site_stays shape old new seen run held stands rest) (ap outcomes.NodeUp same)
@@ -231,7 +213,7 @@ pub site_resent : (shape : Shape) (old new : Site) (seen : ℕ → List ℕ) (ru
 unfolding resend_step
 site_resent shape old new seen run sent held sends sent_is rest =
     let all = run.sent ++ sent_by_owners shape run in
-    let stands : HoldsNet new.nodes shape.buckets (net_of shape (record run { sent = all })) = subst (HoldsNet new.nodes shape.buckets) (net_resent shape run held.sound) (sends shape.buckets (net_of shape run) held.net) in (
-      site_moved shape old new seen run all run.nodes run.lost held (sound_resend shape run held.sound) stands (λ none. cover_in_run shape run (held.covered none)) rest,
+    let stands : HoldsNet new.nodes shape.buckets (net_of shape (record run { sent = all })) = subst (HoldsNet new.nodes shape.buckets) (net_resent shape run held.rest.sound) (sends shape.buckets (net_of shape run) held.rest.net) in (
+      site_moved shape old new seen run (resend_step shape run).run held (alike_resend shape run) (sound_resend shape run held.rest.sound) stands (covered_resend shape run held.rest.covered) refl refl rest,
       ap outcomes.Resent (sent_is ∙ ap length stands.outbox.sent_is),
     )

@@ -17,6 +17,7 @@ use Rattle.rb_site.specs.Site.{IsSite, OwnerHolds, buffered_by}
 use Rattle.rb_site.specs.declared.site.Site.{Site}
 use Rattle.rb_nodes.proofs.ShareLaws.{covers_share}
 use Rattle.rb_site.proofs.ShareLaws.{unacknowledged_share}
+use Rattle.rb_site.proofs.PointLaws.{cover_at_site}
 use Rattle.rb_nodes.proofs.NodeLaws.{of_its_group, share_count}
 use Rattle.rb_nodes.proofs.MemberLaws.{in_group, owner_in_group}
 use Rattle.rb_nodes.proofs.PlaceLaws.{group_is}
@@ -30,7 +31,7 @@ item_there (x ∷ xs) (suc k) within = item_there xs k (omega arith)
 -- the owner of a bucket holds all messages of it that are not acknowledged
 pub owner_holds : (shape : Shape) (site : Site) (seen : ℕ → List ℕ) (run : Progress) → IsSite shape site seen run → run.lost ≡ None → (bucket : ℕ) → bucket < shape.buckets → OwnerHolds shape site run bucket
 owner_holds shape site seen run held none bucket below =
-    let nodes = held.net.groups in
+    let nodes = held.rest.net.groups in
     let all : Buffered = buffered_by shape run in
     let number = bucket / run.nodes.replicas in
     let owner = owner_in run.nodes bucket in
@@ -42,7 +43,7 @@ owner_holds shape site seen run held none bucket below =
     let from = own.from in
     let most = own.below in
     let at : owner / site.nodes.nodes.replicas ≡ number = ap (λ (r : ℕ). owner / r) nodes.replicas ∙ group_is run.nodes.replicas number owner (from, most) in
-    ap (λ (place : ℕ). option_map (λ buffer. messages_kept buffer bucket run.opened) (option_and_then (λ found. buffer_of found owner) (slice_get site.nodes.nodes.groups.items place))) at
-    ∙ ap (λ (found : Option Group). option_map (λ buffer. messages_kept buffer bucket run.opened) (option_and_then (λ other. buffer_of other owner) found)) there
-    ∙ covering_holds group (share_of shape.buckets all number) owner bucket here (from, omega arith) (covers_share shape.buckets all number owner from most ∙ held.covered none bucket below)
+    ap (λ (place : ℕ). option_map (λ buffer. messages_kept buffer bucket) (option_and_then (λ found. buffer_of found owner) (slice_get site.nodes.nodes.groups.items place))) at
+    ∙ ap (λ (found : Option Group). option_map (λ buffer. messages_kept buffer bucket) (option_and_then (λ other. buffer_of other owner) found)) there
+    ∙ covering_holds group (share_of shape.buckets all number) owner bucket here (from, omega arith) (covers_share shape.buckets all number owner from most ∙ cover_at_site shape run (held.rest.covered.owners none) bucket below)
     ∙ ap (λ (ms : List Message). Some ms) (unacknowledged_share shape run number bucket (of_its_group all bucket number (length site.nodes.nodes.groups.items) its))

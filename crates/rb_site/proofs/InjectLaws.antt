@@ -11,8 +11,7 @@ use Rattle.rb_base.specs.declared.body.EpochBody.{EpochBody}
 use Rattle.rb_journal_defs.specs.Journal.{Journal, closed_epochs}
 use Rattle.rb_journal_defs.specs.Body.{Shape, changes_in, body_changes, body_of, has_something_to_log, is_some_change, reflected_in, completed_bodies}
 use Rattle.rb_journal_defs.specs.Transaction.{first_of}
-use Rattle.rb_journal_defs.proofs.Counts.{body_length, epochs_length}
-use Rattle.rb_journal_defs.proofs.Order.{closed_rise}
+use Rattle.rb_journal_defs.proofs.Counts.{filter_length}
 use Rattle.rb_message_defs.specs.declared.answers.Assembled.{Assembled}
 use Rattle.rb_message_defs.specs.Received.{Fed, AreChained, assembled_of, taken_from}
 use Rattle.rb_message_defs.proofs.Chained.{are_chained}
@@ -26,14 +25,9 @@ use Rattle.rb_inject.specs.Body.{body_of_assembled}
 use Rattle.rb_inject.specs.Injector as inject
 use Rattle.rb_inject.specs.declared.injector.Injector.{Injector}
 use Rattle.rb_play_defs.proofs.Grows.{written_within}
-use Rattle.rb_site.specs.Site.{AreDeclared, changes_made, most_made}
+use Rattle.rb_site.specs.Site.{AreDeclared, most_closed}
 use Rattle.rb_site.specs.Inject.{IsInjectorAt}
 use Rattle.rb_site.proofs.BodyLaws.{body_is}
-use Rattle.rb_site.proofs.BodyFits.{at_least_one}
-
--- how many changes bodies have
-abbrev pub changes_in_bodies : List EpochBody → ℕ
-changes_in_bodies bodies = sum_by (λ body. length body.changes) bodies
 
 -- what the event buffer assembles
 pub next_is : (shape : Shape) (events : EventBuffer) (its : Injector) (seen : ℕ → List ℕ) (run : Progress) (result : Option Assembled) → IsInjectorAt shape events its seen run →
@@ -70,47 +64,6 @@ buffer_taken shape events its seen run new assembled e held is answers taken =
     subst (λ (n : ℕ). StandsFor new (record fed { last = n })) is
     (subst (λ (o : Option Assembled). StandsFor new (record fed { last = option_map_or (λ assembled. assembled.epoch.0) o fed.last })) (sym (answers fed held.fed chained)) (taken fed held.fed chained))
 
--- what a body has to log
-pub is_logged_body : (shape : Shape) (e : ℕ) (j : Journal) → shape.site ≡ A → has_something_to_log (body_of shape e j) ≡ true → is_some_change (body_of shape e j).changes ≡ true
-unfolding body_of
-is_logged_body shape e j a logged = go shape.site a (is_some_change (body_changes shape e j)) logged
-  where
-    go : (s : SiteId) → s ≡ A → (b : Bool) → (b || is_some (reflected_in s e j)) ≡ true → b ≡ true
-    go A same true or = refl
-    go A same false or = or
-    go B same b or = absurd (let g : B ≡ A = same in cc)
-
--- the changes of some epochs' bodies are no more than those of the epochs
-made_sum : (shape : Shape) (j : Journal) (epochs : List ℕ) → changes_in_bodies (map (λ epoch. body_of shape epoch j) epochs) ≤ sum_by (λ e. length (changes_in shape.site e j)) epochs
-unfolding body_of
-made_sum shape j [] = omega arith
-made_sum shape j (e ∷ epochs) =
-    let h = made_sum shape j epochs in
-    let b = body_length shape e j in
-    omega (arith, sum_by-cons (λ (body : EpochBody). length body.changes) (body_of shape e j) (map (λ epoch. body_of shape epoch j) epochs), sum_by-cons (λ e. length (changes_in shape.site e j)) e epochs)
-
-filtered_sum : (f : ℕ → ℕ) (test : ℕ → Bool) (xs : List ℕ) → sum_by f (filter test xs) ≤ sum_by f xs
-filtered_sum f test [] = omega arith
-filtered_sum f test (x ∷ xs) = go (test x) (filtered_sum f test xs)
-  where
-    go : (b : Bool) → sum_by f (filter test xs) ≤ sum_by f xs → sum_by f (cond b (x ∷ filter test xs) (filter test xs)) ≤ sum_by f (x ∷ xs)
-    go true h = omega (arith, sum_by-cons f x (filter test xs), sum_by-cons f x xs)
-    go false h = omega (arith, sum_by-cons f x xs)
-
--- the changes that are written are no more than all
-pub written_few : (shape : Shape) (run : Progress) → IsSound shape run → changes_in_bodies (written_bodies shape run) ≤ changes_made shape run.journal
-written_few shape run sound =
-    let j = run.journal in
-    let upto = filter (λ epoch. nat_le epoch run.last) (closed_epochs j) in
-    let worth = worth_logging shape j upto in
-    let f : ℕ → ℕ = λ e. length (changes_in shape.site e j) in
-    let a : changes_in_bodies (written_bodies shape run) ≡ changes_in_bodies (map (λ epoch. body_of shape epoch j) worth) = ap changes_in_bodies (written_is shape run sound) in
-    let b = made_sum shape j worth in
-    let c : sum_by f worth ≤ sum_by f upto = filtered_sum f (λ epoch. has_something_to_log (body_of shape epoch j)) upto in
-    let d : sum_by f upto ≤ sum_by f (closed_epochs j) = filtered_sum f (λ epoch. nat_le epoch run.last) (closed_epochs j) in
-    let g : sum_by f (closed_epochs j) ≤ changes_made shape j = epochs_length shape.site run.opened (closed_epochs j) j (closed_rise run.opened j sound.order) in
-    omega arith
-
 -- the bodies after an epoch that is taken
 pub bodies_with : (shape : Shape) (run : Progress) (e : ℕ) (rest : List ℕ) → IsSound shape run → takeable shape run ≡ e ∷ rest → has_something_to_log (body_of shape e run.journal) ≡ true →
     written_bodies shape (with_taken shape run e) ≡ written_bodies shape run ++ body_of shape e run.journal ∷ []
@@ -120,35 +73,17 @@ pub bodies_without : (shape : Shape) (run : Progress) (e : ℕ) (rest : List ℕ
     written_bodies shape (with_taken shape run e) ≡ written_bodies shape run
 bodies_without shape run e rest sound front logged = written_more shape run e rest sound front ∙ ap (λ (b : Bool). written_bodies shape run ++ cond b (body_of shape e run.journal ∷ []) []) logged ∙ append-nil (written_bodies shape run)
 
--- each body that is written has a change
-worth_count : (shape : Shape) (j : Journal) (epochs : List ℕ) → shape.site ≡ A → length (worth_logging shape j epochs) ≤ changes_in_bodies (map (λ epoch. body_of shape epoch j) (worth_logging shape j epochs))
-worth_count shape j [] a = omega arith
-worth_count shape j (e ∷ epochs) a = go (has_something_to_log (body_of shape e j)) refl (worth_count shape j epochs a)
-  where
-    made : ℕ → EpochBody
-    made epoch = body_of shape epoch j
-
-    rest : List ℕ
-    rest = filter (λ epoch. has_something_to_log (body_of shape epoch j)) epochs
-
-    go : (b : Bool) → has_something_to_log (body_of shape e j) ≡ b → length rest ≤ changes_in_bodies (map made rest) → length (cond b (e ∷ rest) rest) ≤ changes_in_bodies (map made (cond b (e ∷ rest) rest))
-    go true logged h =
-        let some = at_least_one (body_of shape e j).changes (is_logged_body shape e j a logged) in
-        omega (arith, sum_by-cons (λ (body : EpochBody). length body.changes) (body_of shape e j) (map made rest))
-    go false logged h = h
-
 -- this many bodies are written
 pub count_is : (shape : Shape) (run : Progress) → IsSound shape run → length (written_bodies shape run) ≡ run.written
 count_is shape run sound = length-take-le run.written (completed_bodies shape run.journal) (written_within shape run sound)
 
--- few bodies are written
-pub written_small : (shape : Shape) (run : Progress) → AreDeclared shape → IsSound shape run → changes_made shape run.journal ≤ most_made → run.written ≤ most_made
-written_small shape run declared sound all =
+-- no more bodies are written than epochs are closed
+pub written_small : (shape : Shape) (run : Progress) → IsSound shape run → length (closed_epochs run.journal) ≤ most_closed → run.written ≤ most_closed
+written_small shape run sound few =
     let upto = filter (λ epoch. nat_le epoch run.last) (closed_epochs run.journal) in
-    let w = sound.written in
-    let count = worth_count shape run.journal upto declared.primary in
-    let same : changes_in_bodies (written_bodies shape run) ≡ changes_in_bodies (map (λ epoch. body_of shape epoch run.journal) (worth_logging shape run.journal upto)) = ap changes_in_bodies (written_is shape run sound) in
-    let few = written_few shape run sound in
+    let logged = filter_length (λ epoch. has_something_to_log (body_of shape epoch run.journal)) upto in
+    let taken = filter_length (λ epoch. nat_le epoch run.last) (closed_epochs run.journal) in
+    let written = sound.written in
     omega arith
 
 -- the body of what was assembled is the journal's

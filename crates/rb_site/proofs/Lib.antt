@@ -1,3 +1,4 @@
+pub mod RestLaws
 pub mod ShareLaws
 pub mod RowLaws
 pub mod BodyLaws

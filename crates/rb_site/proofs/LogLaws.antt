@@ -1,6 +1,6 @@
 -- What the log of a site is ready for: its bodies have room, their epochs rise, and there are few
 -- files.
-use Rattle.std.proofs.Common.{◌≡◌, ℕ, zero, suc, ◌+◌, ◌<◌, ◌≤◌, List, [], ◌∷◌, ◌++◌, length, map, get_or, refl, sym, ap, subst, ◌∙◌, arith, inl, inr, length-append}
+use Rattle.std.proofs.Common.{◌≡◌, ℕ, zero, suc, ◌+◌, ◌*◌, ◌<◌, ◌≤◌, List, [], ◌∷◌, ◌++◌, length, map, get_or, refl, sym, ap, subst, ◌∙◌, arith, inl, inr, length-append}
 use Rattle.std.specs.Prelude.{◌⊎◌, nat_le, Option, Some, None, IfSome, unwrap_or}
 use Rattle.std.specs.List.{AllByRecursion, last_or}
 use Rattle.std.specs.List.Sorted.{IsNonDecreasingBy}
@@ -14,7 +14,9 @@ use Rattle.rb_log_defs.specs.File.{binlog_of, binlog_files, index_rows}
 use Rattle.rb_log_defs.specs.Fits.{CanBeMapped}
 use Rattle.rb_journal_defs.specs.Journal.{Journal, closed_epochs}
 use Rattle.rb_journal_defs.specs.Body.{Shape, body_of, has_something_to_log}
-use Rattle.rb_journal_defs.proofs.Counts.{body_length, epoch_length}
+use Rattle.rb_journal_defs.specs.Order.{AreAuthored}
+use Rattle.rb_journal_defs.specs.Counts.{own_changes}
+use Rattle.rb_journal_defs.proofs.Counts.{body_own}
 use Rattle.rb_journal_defs.proofs.Order.{Rises, closed_rise, upto}
 use Rattle.rb_message_defs.proofs.Messages.{all_more, all_mapped}
 use Rattle.rb_device_defs.specs.Index.{last_epoch_of}
@@ -30,7 +32,9 @@ use Rattle.rb_play_defs.specs.Fitting.{JournalFits}
 use Rattle.rb_play_defs.proofs.Fits.{all_filtered}
 use Rattle.rb_play_defs.proofs.Sounds.{closed_all_below}
 use Rattle.rb_play_defs.proofs.Takes.{written_is}
-use Rattle.rb_site.specs.Site.{IsSmallTable, AreDeclared, changes_made, most_made, setup_of}
+use Rattle.rb_evbuf.specs.declared.buffer.EventBuffer.{EventBuffer}
+use Rattle.rb_site.specs.Inject.{IsInjectorAt}
+use Rattle.rb_site.specs.Site.{IsSmallTable, AreDeclared, most_own, most_closed, setup_of}
 use Rattle.rb_site.proofs.BodyFits.{can_be_mapped, can_be_written, few_bytes}
 use Rattle.rb_site.proofs.InjectLaws.{count_is, written_small}
 
@@ -63,23 +67,23 @@ written_epoch its setup bodies seen held =
 pub last_file_is : (its : Injector) (setup : LogSetup) (bodies : List EpochBody) (seen : ℕ → List ℕ) → inject.StandsFor its setup bodies seen → inject.last_file_of its ≡ length (binlog_files setup.site setup.limit bodies)
 last_file_is its setup bodies seen held = omega (arith, held.files.number_is, length-append (binlog_of setup.site setup.limit bodies).closed ((binlog_of setup.site setup.limit bodies).last ∷ []))
 
--- an epoch has no more changes than the site
-pub few_changes : (shape : Shape) (e : ℕ) (j : Journal) → length (body_of shape e j).changes ≤ changes_made shape j
+-- an epoch has no more changes than the site made itself
+pub few_changes : (shape : Shape) (e : ℕ) (j : Journal) → AreAuthored shape.site j → length (body_of shape e j).changes ≤ own_changes j
 unfolding body_of
-few_changes shape e j = omega (arith, body_length shape e j, epoch_length shape.site e j)
+few_changes shape e j authored = body_own shape e j authored
 
 -- so its body has room
-pub has_room : (shape : Shape) (e : ℕ) (j : Journal) → AreDeclared shape → length shape.tables ≤ 65536 → JournalFits shape j → changes_made shape j ≤ most_made → e < 18446744073709551616 → HasRoomInLog (body_of shape e j)
+pub has_room : (shape : Shape) (e : ℕ) (j : Journal) → AreDeclared shape → length shape.tables ≤ 65536 → JournalFits shape j → AreAuthored shape.site j → own_changes j ≤ most_own → e < 18446744073709551616 → HasRoomInLog (body_of shape e j)
 unfolding body_of
-has_room shape e j declared tables fits few below = record {
+has_room shape e j declared tables fits authored few below = record {
   written = can_be_written shape e j declared fits;
-  small = omega (arith, few, tables, few_bytes shape e j 0 declared fits, few_changes shape e j);
-  few = omega (arith, few, few_changes shape e j);
+  small = omega (arith, few, tables, few_bytes shape e j 0 declared fits, few_changes shape e j authored);
+  few = omega (arith, few, few_changes shape e j authored);
   epoch = omega (arith, below);
 }
 
 -- what a run has written can be logged
-worth_room : (shape : Shape) (run : Progress) → AreDeclared shape → length shape.tables ≤ 65536 → IsSound shape run → JournalFits shape run.journal → changes_made shape run.journal ≤ most_made → run.opened < 18446744073709551616 →
+worth_room : (shape : Shape) (run : Progress) → AreDeclared shape → length shape.tables ≤ 65536 → IsSound shape run → JournalFits shape run.journal → own_changes run.journal ≤ most_own → run.opened < 18446744073709551616 →
     AllByRecursion (λ e. HasRoomInLog (body_of shape e run.journal)) (worth_logging shape run.journal (upto run.last run.journal))
 worth_room shape run declared tables sound fits few opened =
     let journal = run.journal in
@@ -87,7 +91,7 @@ worth_room shape run declared tables sound fits few opened =
     all_filtered (λ e. e < run.opened) (λ e. has_something_to_log (body_of shape e journal)) (upto run.last journal)
     (all_filtered (λ e. e < run.opened) (λ e. nat_le e run.last) (closed_epochs journal) (closed_all_below run.opened journal sound.order)) in
     all_more (λ e. e < run.opened) (λ e. HasRoomInLog (body_of shape e journal)) (worth_logging shape journal (upto run.last journal))
-    (λ e under. has_room shape e journal declared tables fits few (omega (arith, under, opened))) below
+    (λ e under. has_room shape e journal declared tables fits sound.authored few (omega (arith, under, opened))) below
 
 rises_order : (top : ℕ) (xs : List ℕ) → Rises top xs → IsNonDecreasingBy (λ e. e) xs
 rises_order top [] rises i k d up within = absurd (omega (arith, within))
@@ -101,7 +105,7 @@ unfolding body_of
 epochs_are shape j [] = refl
 epochs_are shape j (e ∷ es) = ap (λ (xs : List ℕ). e ∷ xs) (epochs_are shape j es)
 
-pub can_be_logged : (shape : Shape) (run : Progress) → AreDeclared shape → length shape.tables ≤ 65536 → IsSound shape run → JournalFits shape run.journal → changes_made shape run.journal ≤ most_made → run.opened < 18446744073709551616 → CanBeLogged (written_bodies shape run)
+pub can_be_logged : (shape : Shape) (run : Progress) → AreDeclared shape → length shape.tables ≤ 65536 → IsSound shape run → JournalFits shape run.journal → own_changes run.journal ≤ most_own → run.opened < 18446744073709551616 → CanBeLogged (written_bodies shape run)
 can_be_logged shape run declared tables sound fits few opened =
     let journal = run.journal in
     let epochs = worth_logging shape journal (upto run.last journal) in
@@ -115,10 +119,10 @@ can_be_logged shape run declared tables sound fits few opened =
     })
 
 -- few files are full
-pub few_files : (its : Injector) (setup : LogSetup) (bodies : List EpochBody) (seen : ℕ → List ℕ) → inject.StandsFor its setup bodies seen → length bodies ≤ most_made → inject.last_file_of its < 4294967294
+pub few_files : (its : Injector) (setup : LogSetup) (bodies : List EpochBody) (seen : ℕ → List ℕ) → inject.StandsFor its setup bodies seen → length bodies ≤ most_closed → inject.last_file_of its < 4294967294
 few_files its setup bodies seen held few = omega (arith, held.files.number_is, few_full setup.site setup.limit bodies, few)
 
-last_in_few : (site : SiteId) (limit : ℕ) (bodies : List EpochBody) → length bodies ≤ most_made → (bodies ≡ []) ⊎ ((earlier : List EpochBody) × (body : EpochBody) × (bodies ≡ earlier ++ body ∷ [])) →
+last_in_few : (site : SiteId) (limit : ℕ) (bodies : List EpochBody) → length bodies ≤ most_closed → (bodies ≡ []) ⊎ ((earlier : List EpochBody) × (body : EpochBody) × (bodies ≡ earlier ++ body ∷ [])) →
     IfSome (last_or None (index_rows site limit bodies)) (λ row. row.file < 4294967294)
 unfolding binlog_of
 last_in_few site limit bodies few (inl none) = subst (λ (bs : List EpochBody). IfSome (last_or None (index_rows site limit bs)) (λ row. row.file < 4294967294)) (sym none) tt
@@ -128,10 +132,10 @@ last_in_few site limit bodies few (inr (earlier, body, is)) =
     (subst (λ (o : Option IndexRow). IfSome o (λ row. row.file < 4294967294)) (sym (last_row site limit earlier body)) (omega (arith, long, few, few_full site limit earlier)))
 
 -- a site's log can be recovered
-pub can_be_recovered : (shape : Shape) (its : Injector) (seen : ℕ → List ℕ) (run : Progress) → AreDeclared shape → length shape.tables ≤ 65536 → IsSound shape run → JournalFits shape run.journal → changes_made shape run.journal ≤ most_made → run.opened < 18446744073709551616 →
-    inject.StandsFor its (setup_of shape its) (written_bodies shape run) seen → CanBeRecovered (setup_of shape its) (written_bodies shape run) seen
-can_be_recovered shape its seen run declared tables sound fits few opened held = record {
-  image = whole_is_image shape.site (inject.limit_of its) (written_bodies shape run) seen held.held;
-  logged = can_be_logged shape run declared tables sound fits few opened;
-  few = last_in_few shape.site (inject.limit_of its) (written_bodies shape run) (omega (arith, count_is shape run sound, written_small shape run declared sound few)) (last_body (written_bodies shape run));
+pub can_be_recovered : (shape : Shape) (its : Injector) (seen : ℕ → List ℕ) (run : Progress) {events : EventBuffer} → IsInjectorAt shape events its seen run → run.opened ≤ 4294967296 * (most_closed + 1) →
+    CanBeRecovered (setup_of shape its) (written_bodies shape run) seen
+can_be_recovered shape its seen run held opened = record {
+  image = whole_is_image shape.site (inject.limit_of its) (written_bodies shape run) seen held.log.held;
+  logged = can_be_logged shape run held.declared held.log.legal.few held.sound held.fits held.few (omega (arith, opened));
+  few = last_in_few shape.site (inject.limit_of its) (written_bodies shape run) (omega (arith, count_is shape run held.sound, written_small shape run held.sound held.few_closed)) (last_body (written_bodies shape run));
 }

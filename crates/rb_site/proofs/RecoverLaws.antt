@@ -4,33 +4,32 @@ use Rattle.std.specs.Prelude.{true, false, is_some, Option, Some, None}
 use Rattle.std.specs.List.{AllByRecursion}
 use Rattle.std.specs.Option.{option_map_or}
 use Rattle.rb_base.specs.declared.site.SiteId.{SiteId}
-use Rattle.rb_base.specs.declared.site.SiteId.TheVariants.{A}
 use Rattle.rb_base.specs.declared.schema.Mapped.{Mapped}
 use Rattle.rb_base.specs.declared.epoch.Epoch.{Epoch}
 use Rattle.rb_device_defs.specs.Image.{IsLogImage}
 use Rattle.rb_device_defs.proofs.ImageLaws.{whole_is_image}
-use Rattle.rb_commit.specs.Hand.{Hand}
 use Rattle.rb_base.specs.declared.message.Sent.{Sent}
 use Rattle.rb_base.specs.declared.outcome.Outcome.TheVariants as outcomes
 use Rattle.rb_journal_defs.specs.Body.{Shape}
-use Rattle.rb_journal_defs.proofs.Counts.{epoch_length}
 use Rattle.rb_evbuf.specs.Buffer.{StandsFor}
 use Rattle.rb_evbuf.specs.declared.buffer.EventBuffer.{EventBuffer}
 use Rattle.rb_inject.specs.Injector as inject
 use Rattle.rb_inject.specs.Injector.{CanBeRecovered}
 use Rattle.rb_inject.specs.declared.injector.Injector.{Injector}
-use Rattle.rb_play_defs.specs.Step.{Progress, acknowledged_epoch, sent_by_owners, sent_to_injector, with_new_injector, injector_step, resend_step, written_bodies}
+use Rattle.rb_play_defs.specs.Step.{Progress, last_written, sent_by_owners, sent_to_injector, with_new_injector, injector_step, resend_step, written_bodies}
 use Rattle.rb_play_defs.proofs.Sounds.{sound_resend}
 use Rattle.rb_play_defs.proofs.Restarts.{sound_injector}
-use Rattle.rb_nodes.specs.Nodes.{CanCount}
-use Rattle.rb_nodes.specs.Net.{Net, HoldsNet, SameSize, buckets_in, groups_in, replicas_in, count_in, lost_in, loss_of, resent_net, CanResend}
-use Rattle.rb_site.specs.Site.{IsSite, SameSetup, buffered_by, net_of, opened_of, limit_of, setup_of}
-use Rattle.rb_site.specs.Stepped.{IsStoppedSite, HasSameSetup, rest_of, site_of}
+use Rattle.rb_nodes.specs.Net.{Net, HoldsNet, SameSize, buckets_in, groups_in, replicas_in, count_in, lost_in, loss_of, resent_net}
+use Rattle.rb_site.specs.Site.{IsSite, IsStoppedSite, rest_of, SameSetup, net_of, limit_of, setup_of}
+use Rattle.rb_site.specs.Stepped.{HasSameSetup, site_of}
+use Rattle.rb_play_defs.proofs.Alike.{alike_resend}
+use Rattle.rb_play_defs.proofs.Covering.{covered_resend, covered_injector}
+use Rattle.rb_site.proofs.RestLaws.{rest_alike}
 use Rattle.rb_site.specs.declared.site.Site.{Site}
 use Rattle.rb_site.specs.declared.stepped.StoppedSite.{StoppedSite}
 use Rattle.rb_site.proofs.FailLaws.{net_resent}
 use Rattle.rb_site.proofs.LogLaws.{log_named, written_epoch, can_be_recovered}
-use Rattle.rb_site.proofs.StandLaws.{site_stands}
+use Rattle.rb_site.proofs.StandLaws.{site_stands, injector_stands, opened_low}
 
 -- what is not there
 pub there_or_none : {X : Type 0} → (found : Option X) → is_some found ≡ false → found ≡ None
@@ -40,13 +39,6 @@ there_or_none (Some x) none = absurd (let no : true ≡ false = none in cc)
 -- what the owners resend to a new injector
 again_where : (shape : Shape) (run : Progress) (lost : Option (ℕ × ℕ)) → run.lost ≡ lost → sent_to_injector shape run ≡ option_map_or (λ loss. []) lost (sent_by_owners shape run)
 again_where shape run lost is = ap (λ (l : Option (ℕ × ℕ)). option_map_or (λ loss. []) l (sent_by_owners shape run)) is
-
--- what a resend needs
-pub rest_can_resend : (shape : Shape) (rest : StoppedSite) (run : Progress) → IsStoppedSite shape rest run → run.lost ≡ None → CanResend rest.nodes
-rest_can_resend shape rest run held none = (shape.buckets, net_of shape run, held.net, held.covered none, counted)
-  where
-    counted : CanCount (buffered_by shape run)
-    counted epoch = omega (arith, epoch_length shape.site epoch run.journal, held.made, held.few)
 
 pub none_lost_of : (shape : Shape) (rest : StoppedSite) (run : Progress) → IsStoppedSite shape rest run → lost_in rest.nodes ≡ None → run.lost ≡ None
 none_lost_of shape rest run held none = sym held.net.lost ∙ ap loss_of none
@@ -58,22 +50,10 @@ unfolding resend_step
 rest_resent shape old new run held none sends rest =
     let sent : sent_to_injector shape run ≡ sent_by_owners shape run = again_where shape run None (none_lost_of shape old run held none) in
     let after : Progress = record run { sent = run.sent ++ sent_by_owners shape run } in
-    let there : IsStoppedSite shape (record old { nodes = new.nodes }) after = record {
-      declared = held.declared;
-      sound = sound_resend shape run held.sound;
-      fits = held.fits;
-      id = held.id;
-      mapped = held.mapped;
-      clock = held.clock;
-      rows = held.rows;
-      count = held.count;
-      net = subst (HoldsNet new.nodes shape.buckets) (net_resent shape run held.sound) (sends shape.buckets (net_of shape run) held.net);
-      covered = held.covered;
-      made = held.made;
-      few = held.few;
-    } in
-    subst (λ (more : List Sent). IsStoppedSite shape new (record run { sent = run.sent ++ more })) (sym sent)
-    (subst (λ (s : StoppedSite). IsStoppedSite shape s after) (sym rest) there)
+    let there : IsStoppedSite shape new after =
+    rest_alike shape old new run after held (alike_resend shape run) (sound_resend shape run held.sound)
+    (subst (HoldsNet new.nodes shape.buckets) (net_resent shape run held.sound) (sends shape.buckets (net_of shape run) held.net)) (covered_resend shape run held.covered) rest in
+    subst (λ (more : List Sent). IsStoppedSite shape new (record run { sent = run.sent ++ more })) (sym sent) there
 
 -- the site with its new injector, and the outcome
 pub site_recovered : (shape : Shape) (old new : StoppedSite) (events : EventBuffer) (its : Injector) (seen : ℕ → List ℕ) (run : Progress) (buckets : ℕ) (written : Epoch) (sent : ℕ) → IsStoppedSite shape old run →
@@ -82,55 +62,44 @@ pub site_recovered : (shape : Shape) (old new : StoppedSite) (events : EventBuff
     IsSite shape (site_of new events its) seen (injector_step shape run).run × (outcomes.Recovered written sent ≡ (injector_step shape run).outcome)
 unfolding injector_step
 site_recovered shape old new events its seen run buckets written sent before held log last all fed count =
-    let through : written.0 ≡ acknowledged_epoch shape run = last ∙ written_epoch its (setup_of shape its) (written_bodies shape run) seen log in
-    let after : IsStoppedSite shape new (with_new_injector shape run) = record {
-      declared = held.declared;
-      sound = sound_injector shape run before.sound;
-      fits = held.fits;
-      id = held.id;
-      mapped = held.mapped;
-      clock = held.clock;
-      rows = held.rows;
-      count = held.count;
-      net = held.net;
-      covered = held.covered;
-      made = held.made;
-      few = held.few;
-    } in (
-      site_stands shape new events its seen (with_new_injector shape run) after
+    let through : written.0 ≡ last_written shape run = last ∙ written_epoch its (setup_of shape its) (written_bodies shape run) seen log in
+    let now = with_new_injector shape run in
+    let before_it : Progress = record run { sent = run.sent ++ sent_to_injector shape run } in
+    let after : IsStoppedSite shape new now =
+    rest_alike shape new new before_it now held (record { journal = refl; opened = refl; drawn = refl }) (sound_injector shape run before.sound) held.net (covered_injector shape run before.covered) refl in (
+      site_stands shape new events its seen now after
           (subst (λ (epoch : ℕ). StandsFor events (record { buckets = shape.buckets; last = epoch; received = [] })) through
           (subst (λ (n : ℕ). StandsFor events (record { buckets = n; last = written.0; received = [] })) (all ∙ before.net.groups.buckets_are) fed)) log,
-      ap (λ (n : ℕ). outcomes.Recovered (record { 0 = n }) sent) through ∙ ap (outcomes.Recovered (record { 0 = acknowledged_epoch shape run })) (count ∙ ap length held.net.outbox.sent_is),
+      ap (λ (n : ℕ). outcomes.Recovered (record { 0 = n }) sent) through ∙ ap (outcomes.Recovered (record { 0 = last_written shape run })) (count ∙ ap length held.net.outbox.sent_is),
     )
 
 -- the tables and the limit of what is left, and its log, by other names
-pub log_can_be_recovered : (shape : Shape) (old : Site) (rest : StoppedSite) (tables : List Mapped) (seen : ℕ → List ℕ) (run : Progress) → rest ≡ rest_of old → tables ≡ rest.mapped → IsSite shape old seen run → opened_of old < 18446744073709551616 →
+pub log_can_be_recovered : (shape : Shape) (old : Site) (rest : StoppedSite) (tables : List Mapped) (seen : ℕ → List ℕ) (run : Progress) → rest ≡ rest_of old → tables ≡ rest.mapped → IsSite shape old seen run →
     CanBeRecovered (record { site = rest.id; limit = rest.limit; tables = tables }) (written_bodies shape run) seen
-log_can_be_recovered shape old rest tables seen run is named held room =
-    let opened : opened_of old ≡ run.opened = ap (λ (hand : Hand). hand.opened) held.clock in
-    let ready = can_be_recovered shape old.injector seen run held.declared held.log.legal.few held.sound held.fits (omega (arith, held.made, held.few)) (omega (arith, opened, room)) held.log in
+log_can_be_recovered shape old rest tables seen run is named held =
+    let ready = can_be_recovered shape old.injector seen run (injector_stands shape old seen run held) (opened_low shape (rest_of old) run held.rest) in
     subst (λ (r : StoppedSite). CanBeRecovered (record { site = r.id; limit = r.limit; tables = tables }) (written_bodies shape run) seen) (sym is)
-    (subst (λ (id : SiteId). CanBeRecovered (record { site = id; limit = limit_of old; tables = tables }) (written_bodies shape run) seen) (held.declared.primary ∙ sym held.id) (record { image = ready.image; logged = ready.logged; few = ready.few }))
+    (subst (λ (id : SiteId). CanBeRecovered (record { site = id; limit = limit_of old; tables = tables }) (written_bodies shape run) seen) (sym held.rest.id) (record { image = ready.image; logged = ready.logged; few = ready.few }))
 
 -- so is what the new injector's log is written for
 pub log_recovered : (shape : Shape) (old : Site) (rest : StoppedSite) (tables : List Mapped) (its : Injector) (seen now : ℕ → List ℕ) (run : Progress) → rest ≡ rest_of old → tables ≡ rest.mapped → IsSite shape old seen run →
     inject.StandsFor its (record { site = rest.id; limit = rest.limit; tables = tables }) (written_bodies shape run) now → inject.StandsFor its (setup_of shape its) (written_bodies shape run) now
 log_recovered shape old rest tables its seen now run is named held log =
-    let site : rest.id ≡ shape.site = ap (λ (r : StoppedSite). r.id) is ∙ held.id ∙ sym held.declared.primary in
-    let all : tables ≡ shape.tables = named ∙ ap (λ (r : StoppedSite). r.mapped) is ∙ held.mapped in
+    let site : rest.id ≡ shape.site = ap (λ (r : StoppedSite). r.id) is ∙ held.rest.id in
+    let all : tables ≡ shape.tables = named ∙ ap (λ (r : StoppedSite). r.mapped) is ∙ held.rest.mapped in
     log_named shape its rest.limit (written_bodies shape run) now
     (subst (λ (id : SiteId). inject.StandsFor its (record { site = id; limit = rest.limit; tables = shape.tables }) (written_bodies shape run) now) site
     (subst (λ (ts : List Mapped). inject.StandsFor its (record { site = rest.id; limit = rest.limit; tables = ts }) (written_bodies shape run) now) all log))
 
 -- what a fault leaves is an image by the site's own names
-pub image_left : (shape : Shape) (old : Site) (rest : StoppedSite) (seen now : ℕ → List ℕ) (run : Progress) → rest ≡ rest_of old → IsSite shape old seen run → IsLogImage rest.id rest.limit (written_bodies shape run) now → IsLogImage A (limit_of old) (written_bodies shape run) now
+pub image_left : (shape : Shape) (old : Site) (rest : StoppedSite) (seen now : ℕ → List ℕ) (run : Progress) → rest ≡ rest_of old → IsSite shape old seen run → IsLogImage rest.id rest.limit (written_bodies shape run) now → IsLogImage shape.site (limit_of old) (written_bodies shape run) now
 image_left shape old rest seen now run is held image =
-    subst (λ (id : SiteId). IsLogImage id (limit_of old) (written_bodies shape run) now) held.id
+    subst (λ (id : SiteId). IsLogImage id (limit_of old) (written_bodies shape run) now) held.rest.id
     (subst (λ (r : StoppedSite). IsLogImage r.id r.limit (written_bodies shape run) now) is image)
 
 -- the image that a new injector's log is
 pub image_stands : (shape : Shape) (old : Site) (rest : StoppedSite) (tables : List Mapped) (its : Injector) (seen now : ℕ → List ℕ) (run : Progress) → rest ≡ rest_of old → IsSite shape old seen run →
-    inject.StandsFor its (record { site = rest.id; limit = rest.limit; tables = tables }) (written_bodies shape run) now → IsLogImage A (limit_of old) (written_bodies shape run) now
+    inject.StandsFor its (record { site = rest.id; limit = rest.limit; tables = tables }) (written_bodies shape run) now → IsLogImage shape.site (limit_of old) (written_bodies shape run) now
 image_stands shape old rest tables its seen now run is held log = image_left shape old rest seen now run is held (whole_is_image rest.id rest.limit (written_bodies shape run) now log.held)
 
 -- the same number of groups and nodes, and the same limit

@@ -10,7 +10,7 @@ use Rattle.rb_journal_defs.specs.Body.{Shape, part_of, in_bucket, changes_in}
 use Rattle.rb_message_defs.specs.Message.{done_message}
 use Rattle.rb_message_defs.specs.Nodes.{numbers_in, part_messages, messages_of, unacknowledged}
 use Rattle.rb_group.specs.Kept.{Kept, needed_in, parts_in, done_in, unacknowledged_in}
-use Rattle.rb_play_defs.specs.Step.{Progress, needed_of, acknowledged_epoch}
+use Rattle.rb_play_defs.specs.Step.{Progress, needed_of}
 use Rattle.rb_nodes.specs.Nodes.{kept_in, share_of}
 use Rattle.rb_site.specs.Site.{buffered_by}
 
@@ -20,9 +20,9 @@ epochs_of_closes j [] = refl
 epochs_of_closes j (e ∷ es) = ap (λ (xs : List ℕ). e ∷ xs) (epochs_of_closes j es)
 
 -- the share needs the same epoch
-pub needed_share : (shape : Shape) (run : Progress) (number : ℕ) → needed_in (share_of shape.buckets (buffered_by shape run) number) ≡ needed_of shape run
+pub needed_share : (shape : Shape) (run : Progress) (number : ℕ) → needed_in (share_of shape.buckets (buffered_by shape run) number) ≡ needed_of run
 needed_share shape run number =
-    ap (λ (es : List ℕ). unwrap_or (find (nat_lt (acknowledged_epoch shape run)) es) run.opened) (epochs_of_closes run.journal (closed_epochs run.journal))
+    ap (λ (es : List ℕ). unwrap_or (find (nat_lt run.acknowledged) es) run.opened) (epochs_of_closes run.journal (closed_epochs run.journal))
 
 -- it keeps the changes of the group's buckets
 kept_share : (shape : Shape) (run : Progress) (number epoch bucket : ℕ) → list_any (λ other. other == bucket) (numbers_in run.nodes number) ≡ true →
@@ -32,13 +32,13 @@ kept_share shape run number epoch bucket is =
 
 -- and what is not acknowledged of them is the run's
 pub unacknowledged_share : (shape : Shape) (run : Progress) (number bucket : ℕ) → list_any (λ other. other == bucket) (numbers_in run.nodes number) ≡ true →
-    unacknowledged_in (share_of shape.buckets (buffered_by shape run) number) bucket ≡ unacknowledged shape (acknowledged_epoch shape run) run.opened run.journal bucket
+    unacknowledged_in (share_of shape.buckets (buffered_by shape run) number) bucket ≡ unacknowledged shape run.acknowledged run.opened run.journal bucket
 unacknowledged_share shape run number bucket is =
     ap (λ (ms : List Message). ms ++ parts_in share bucket run.opened) (closed (closed_epochs run.journal))
     ∙ ap (λ (ms : List Message). flat_map (messages_of shape bucket run.journal) (filter (nat_lt a) (closed_epochs run.journal)) ++ ms) (parts run.opened)
   where
     a : ℕ
-    a = acknowledged_epoch shape run
+    a = run.acknowledged
 
     share : Kept
     share = share_of shape.buckets (buffered_by shape run) number

@@ -2,8 +2,6 @@
 use Rattle.std.proofs.Common.{◌≡◌, ℕ, arith, Bool, true, false, List, refl, sym, ap, subst, ◌∙◌}
 use Rattle.std.specs.Prelude.{Result, Ok, Err, IfOk, IfErr, Option, Some, None, if◌then◌else◌}
 use Rattle.std.specs.Option.{option_map_or}
-use Rattle.rb_base.specs.declared.site.SiteId.{SiteId}
-use Rattle.rb_base.specs.declared.site.SiteId.TheVariants.{A}
 use Rattle.rb_base.specs.declared.script.ClientOp.{ClientOp}
 use Rattle.rb_base.specs.declared.outcome.Outcome.{Outcome}
 use Rattle.rb_base.specs.declared.outcome.Outcome.TheVariants as outcomes
@@ -29,16 +27,16 @@ use Rattle.rb_site.proofs.TakeLaws.{part_of}
 
 -- the device is unchanged
 part_before : (shape : Shape) (site : Site) (seen now : ℕ → List ℕ) (run : Progress) (event : SiteEvent) → IsSite shape site seen run → IsLogImage shape.site (limit_of site) (written_bodies shape run) now →
-    HoldsUnfinishedLog (limit_of site) run.written (written_bodies shape (site_step shape run event).run) now
+    HoldsUnfinishedLog shape.site (limit_of site) run.written (written_bodies shape (site_step shape run event).run) now
 part_before shape site seen now run event held image =
-    part_of shape run run (written_bodies shape (site_step shape run event).run) (limit_of site) now held.declared.primary held.sound (omega arith) (goes_site shape run event held.sound).grows image
+    part_of shape run run (written_bodies shape (site_step shape run event).run) (limit_of site) now held.rest.sound (omega arith) (goes_site shape run event held.rest.sound).grows image
 
-pub part_after : (shape : Shape) (site : Site) (seen now : ℕ → List ℕ) (run : Progress) (event : SiteEvent) → IsSite shape site seen run → IsLogImage A (limit_of site) (written_bodies shape run) now →
-    HoldsUnfinishedLog (limit_of site) run.written (written_bodies shape (site_step shape run event).run) now
+pub part_after : (shape : Shape) (site : Site) (seen now : ℕ → List ℕ) (run : Progress) (event : SiteEvent) → IsSite shape site seen run → IsLogImage shape.site (limit_of site) (written_bodies shape run) now →
+    HoldsUnfinishedLog shape.site (limit_of site) run.written (written_bodies shape (site_step shape run event).run) now
 part_after shape site seen now run event held image =
-    part_before shape site seen now run event held (subst (λ (id : SiteId). IsLogImage id (limit_of site) (written_bodies shape run) now) (sym held.declared.primary) image)
+    part_before shape site seen now run event held image
 
-pub part_unmoved : (shape : Shape) (site : Site) (seen : ℕ → List ℕ) (run : Progress) (event : SiteEvent) → IsSite shape site seen run → HoldsUnfinishedLog (limit_of site) run.written (written_bodies shape (site_step shape run event).run) seen
+pub part_unmoved : (shape : Shape) (site : Site) (seen : ℕ → List ℕ) (run : Progress) (event : SiteEvent) → IsSite shape site seen run → HoldsUnfinishedLog shape.site (limit_of site) run.written (written_bodies shape (site_step shape run event).run) seen
 part_unmoved shape site seen run event held = part_before shape site seen seen run event held (whole_is_image shape.site (limit_of site) (written_bodies shape run) seen held.log.held)
 
 -- a step by what its event is
@@ -88,7 +86,7 @@ pub none_lost : (shape : Shape) (site : Site) (seen : ℕ → List ℕ) (run : P
 none_lost shape site seen run event same held is needs none =
     let all : needs_all_groups event ≡ true = ap needs_all_groups is ∙ needs in
     let here : lost_in site.nodes ≡ None = sym (none ∙ ap (λ (b : Bool). if b then lost_in site.nodes else None) all) in
-    sym held.net.lost ∙ ap loss_of here
+    sym held.rest.net.lost ∙ ap loss_of here
 
 -- an event at a lost site
 lost_before : (run : Progress) (step : play.StepResult) (group epoch : ℕ) → run.lost ≡ Some (group, epoch) → unless_lost run step ≡ unchanged run (outcomes.SiteLost group (record { 0 = epoch }))
@@ -113,7 +111,7 @@ site_lost shape site seen run event loss held is = go (needs_all_groups event) r
     go : (b : Bool) → needs_all_groups event ≡ b → Some loss ≡ (if b then lost_in site.nodes else None) → IsSite shape site seen (site_step shape run event).run × (outcomes.SiteLost loss.0 loss.1 ≡ (site_step shape run event).outcome)
     go true needs here =
         step_is shape run event (unchanged run (outcomes.SiteLost loss.0 loss.1)) site seen (outcomes.SiteLost loss.0 loss.1)
-        (refused_where shape run event loss.0 loss.1.0 needs (sym held.net.lost ∙ ap loss_of (sym here))) (held, refl)
+        (refused_where shape run event loss.0 loss.1.0 needs (sym held.rest.net.lost ∙ ap loss_of (sym here))) (held, refl)
     go false needs here = absurd (let no : Some loss ≡ None = here in cc)
 
 -- what `inject` leaves is what its step leaves

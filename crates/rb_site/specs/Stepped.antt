@@ -1,40 +1,17 @@
 -- What an event leaves of a site, by cases.
 use Rattle.std.specs.Prelude.{◌≡◌, ℕ, ◌≤◌, ⊤, length, None, Result, Ok, Err}
-use Rattle.rb_base.specs.declared.site.SiteId.TheVariants.{A}
 use Rattle.rb_base.specs.declared.outcome.Outcome.{Outcome}
 use Rattle.rb_base.specs.Faults.{Rose}
 use Rattle.rb_base.specs.declared.memory.NoMemory.{NoMemory}
-use Rattle.rb_journal_defs.specs.Journal.{previous_closed, row_at}
-use Rattle.rb_journal_defs.specs.Body.{Shape}
-use Rattle.rb_store.specs.Tables.{rows_in, tables_in}
 use Rattle.rb_evbuf.specs.declared.buffer.EventBuffer.{EventBuffer}
 use Rattle.rb_inject.specs.Injector as injector
 use Rattle.rb_inject.specs.declared.injector.Injector.{Injector}
-use Rattle.rb_play_defs.specs.Step.{Progress}
-use Rattle.rb_play_defs.specs.Sound.{IsSound}
-use Rattle.rb_play_defs.specs.Fitting.{JournalFits}
-use Rattle.rb_nodes.specs.Nodes.{OwnersCover}
-use Rattle.rb_nodes.specs.Net.{HoldsNet, groups_in, replicas_in}
-use Rattle.rb_site.specs.Site.{AreDeclared, buffered_by, net_of, changes_made, most_made, groups_of, replicas_of, limit_of}
+use Rattle.rb_nodes.specs.Net.{groups_in, replicas_in}
+use Rattle.rb_site.specs.Site.{groups_of, replicas_of, limit_of}
 use Rattle.rb_site.specs.declared.site.Site.{Site}
 use Rattle.rb_site.specs.declared.stepped.Stepped.{Stepped}
 use Rattle.rb_site.specs.declared.stepped.Stepped.TheVariants as steps
 use Rattle.rb_site.specs.declared.stepped.StoppedSite.{StoppedSite}
-
--- a site without injector and event buffer represents a point of a run
-pub record IsStoppedSite (shape : Shape) (site : StoppedSite) (run : Progress) : Type 0 where
-  pub declared : AreDeclared shape
-  pub sound : IsSound shape run
-  pub fits : JournalFits shape run.journal
-  pub id : site.id ≡ A
-  pub mapped : site.mapped ≡ shape.tables
-  pub clock : site.clock ≡ record { opened = run.opened; previous = previous_closed run.opened run.journal; drawn = run.drawn }
-  pub rows : (table key : ℕ) → rows_in site.tables table key ≡ row_at shape.site table key run.journal
-  pub count : tables_in site.tables ≡ length shape.tables
-  pub net : HoldsNet site.nodes shape.buckets (net_of shape run)
-  pub covered : run.lost ≡ None → OwnersCover shape.buckets (buffered_by shape run)
-  pub made : site.made ≡ changes_made shape run.journal
-  pub few : site.made ≤ most_made
 
 -- the limit of its binlog files
 abbrev pub limit_in : StoppedSite → ℕ
@@ -44,19 +21,6 @@ limit_in site = site.limit
 abbrev pub HasSameSetup : StoppedSite → Injector → Site → Type 0
 HasSameSetup rest its site =
     (groups_of site ≡ groups_in rest.nodes) × (replicas_of site ≡ replicas_in rest.nodes) × (limit_of site ≡ injector.limit_of its)
-
--- what is left of a site without its injector and event buffer
-abbrev pub rest_of : Site → StoppedSite
-rest_of site = record {
-  alloc = site.alloc;
-  id = site.id;
-  tables = site.tables;
-  mapped = site.mapped;
-  clock = site.clock;
-  nodes = site.nodes;
-  limit = limit_of site;
-  made = site.made;
-}
 
 -- a site of this rest
 abbrev pub site_of : StoppedSite → EventBuffer → Injector → Site
@@ -70,6 +34,7 @@ site_of rest events its = record {
   events = events;
   injector = its;
   made = rest.made;
+  closed = rest.closed;
 }
 
 -- what an event leaves that does not touch the device

@@ -1,32 +1,30 @@
 ghost use Rattle.std.specs.Option.{option_map};
-ghost use Rattle.std.specs.Prelude.{◌≡◌, ◌≢◌, ◌+◌, ◌*◌, ◌<◌, ◌^◌, ℕ, [], length, List, Err, None, false, if◌then◌else◌, IfOk, OnOk, OnErr};
+ghost use Rattle.std.specs.Prelude.{◌≡◌, ◌≢◌, ◌+◌, ◌*◌, ◌<◌, ◌≤◌, ◌^◌, ℕ, [], length, List, Err, None, false, if◌then◌else◌, IfOk, OnOk, OnErr};
 ghost use Rattle.rb_site.specs.Outcome.{outcome_of_fault};
-ghost use Rattle.rb_base.specs.declared.site.SiteId.TheVariants.{A};
 ghost use Rattle.rb_base.specs.declared.script.ClientOp.{ClientOp};
 ghost use Rattle.rb_evbuf.specs.Buffer.{StandsFor};
-ghost use Rattle.rb_store.specs.Tables.{rows_in};
+ghost use Rattle.rb_store.specs.Tables.{held_at};
+ghost use Rattle.rb_store.specs.Left.{held_by};
 ghost use Rattle.rb_log_defs.specs.File.{binlog_files, index_rows};
 ghost use Rattle.rb_disk.specs.Disk.{IsLowestFile};
 ghost use Rattle.rb_device_defs.specs.Image.{IsLogImage};
-ghost use Rattle.rb_journal_defs.specs.Journal.{row_at};
 ghost use Rattle.rb_journal_defs.specs.Transaction.{refusal_of};
 ghost use Rattle.rb_nodes.specs.Nodes.{GroupHolds};
 ghost use Rattle.rb_nodes.specs.Net.{lost_in};
 ghost use Rattle.rb_journal_defs.specs.Body.{Shape};
+ghost use Rattle.rb_play_defs.specs.Play.{setup_at, shape_of};
 ghost use Rattle.rb_play_defs.specs.UnfinishedLog.{HoldsUnfinishedLog};
-ghost use Rattle.rb_play_defs.specs.Step.{Progress, fed_by, beginning, rows_of, tx_changes, committed, commit_outcome, tx_step, close_step, deliver_step, deliver_all_step, injected, inject_step, injector_step, takeable, worth_logging, site_step, written_bodies, fail_step, restart_step, resend_step, answer_outcome as outcome_of_answer};
+ghost use Rattle.rb_play_defs.specs.Step.{Progress, fed_by, beginning, rows_of, tx_changes, committed, commit_outcome, tx_step, close_step, deliver_step, deliver_all_step, with_all_taken, inject_step, injector_step, takeable, worth_logging, site_step, written_bodies, fail_step, restart_step, resend_step, answer_outcome as outcome_of_answer};
 ghost use Rattle.rb_inject.specs.Injector as inject;
 ghost use Rattle.rb_inject.specs.Injector.{IsLimit};
 ghost use Rattle.rb_inject.specs.Fault.{HasInjectCause, IsNotEmpty, IsTooLarge};
 
 use crate::mapping::copy_tables;
 use crate::rows::store;
-use crate::stepped::{Stepped, StoppedSite, step_of};
+use crate::stepped::{Stepped, StoppedSite, own_setup, step_of};
 use crate::taking::{TakenEpochs, take_epochs};
 use crate::tally::Tally;
-use rb_base::{
-    Changes, ClientOps, Epoch, MappedTables, NoMemory, Outcome, Schema, SiteId, SiteSetup,
-};
+use rb_base::{Changes, ClientOps, Epoch, MappedTables, NoMemory, Outcome, Setup, SiteId};
 use rb_commit::{Clock, TxFault, prepare};
 use rb_disk::{DiskLogFault, LogDisk, lowest_file};
 use rb_evbuf::{EventBuffer, Missing, Received};
@@ -50,34 +48,36 @@ pub struct Site {
     nodes: SiteNodes,
     events: EventBuffer,
     injector: Injector,
-    // How many changes its clients have made.
+    // How many changes the site made itself.
     made: u64,
+    // How many epochs it closed.
+    closed: u64,
 }
 
 impl Site {
-    ghost use Rattle.rb_site.specs.Site.{IsSite, AreDeclared, EventFits, TxFits, CanTake, opened_of, sent_by_site, shape_of, groups_of, replicas_of, limit_of, setup_of, SameSetup, buffered_by, needs_all_groups, uses_device};
+    ghost use Rattle.rb_site.specs.Site.{IsSite, IsStoppedSite, rest_of, AreDeclared, EventFits, TxFits, CanTake, most_closed, closed_by, sent_by_site, groups_of, replicas_of, limit_of, setup_of, SameSetup, buffered_by, needs_all_groups, uses_device};
     ghost use Rattle.rb_site.specs.Inject.{IsInjectorAt};
-    ghost use Rattle.rb_site.specs.Stepped.{IsStoppedSite, HasSameSetup, rest_of, site_of, IfOn, IfStopped, IsCut, HasStepCause};
+    ghost use Rattle.rb_site.specs.Stepped.{HasSameSetup, site_of, IfOn, IfStopped, IsCut, HasStepCause};
 
-    /// Creates site A on an empty device, with these tables, `groups` groups of `replicas` nodes
-    /// each, and binlog files of this limit. The injector begins a log without an epoch. `NotEmpty`
-    /// names the lowest file that is not empty, and leaves the device unchanged.
+    /// Creates a site of a setup on an empty device. The injector begins a log without an epoch.
+    /// `NotEmpty` names the lowest file that is not empty, and leaves the device unchanged.
     pub fn create<D: LogDisk>(
         alloc: Global,
-        schemas: &[Schema],
-        setup: SiteSetup,
+        id: SiteId,
+        setup: &Setup,
         disk: &mut D,
     ) -> Result<Site, InjectFault>
-        requires declared { AreDeclared (shape_of schemas.now setup.groups setup.replicas) }
-        requires some { 0 < setup.groups * setup.replicas }
-        requires few { setup.groups * setup.replicas < 2 ^ 32 }
-        requires tables { length schemas.now < 2 ^ 16 }
-        requires limit { IsLimit setup.limit }
+        requires declared { AreDeclared (shape_of setup.now id) }
+        requires some { 0 < (setup_at id setup.now).groups * (setup_at id setup.now).replicas }
+        requires few { (setup_at id setup.now).groups * (setup_at id setup.now).replicas < 2 ^ 32 }
+        requires tables { length setup.now.tables < 2 ^ 16 }
+        requires limit { IsLimit (setup_at id setup.now).limit }
         ensures begun { IfOk result (λ site.
-            IsSite (shape_of schemas.now setup.groups setup.replicas) site (D.seen disk.new)
-            (beginning setup.groups setup.replicas)) }
-        ensures nodes { IfOk result (λ site. (groups_of site ≡ setup.groups)
-            × (replicas_of site ≡ setup.replicas) × (limit_of site ≡ setup.limit)) }
+            IsSite (shape_of setup.now id) site (D.seen disk.new)
+            (beginning (setup_at id setup.now).groups (setup_at id setup.now).replicas)) }
+        ensures nodes { IfOk result (λ site. (groups_of site ≡ (setup_at id setup.now).groups)
+            × (replicas_of site ≡ (setup_at id setup.now).replicas)
+            × (limit_of site ≡ (setup_at id setup.now).limit)) }
         ensures not_empty { (file size : ℕ) → result ≡ Err (InjectFault.NotEmpty file size) →
             IsLowestFile file size (D.seen disk.old) }
         ensures refused { (file size : ℕ) → IsLowestFile file size (D.seen disk.old) →
@@ -85,14 +85,15 @@ impl Site {
         ensures untouched { IsNotEmpty result → disk.new ≡ disk.old }
         ensures no_size { IsTooLarge result → ⊥ }
         ensures stopped { OnErr result (((file : ℕ) → D.seen disk.old file ≡ []) →
-            IsLogImage A setup.limit [] (D.seen disk.new)) }
+            IsLogImage id (setup_at id setup.now).limit [] (D.seen disk.new)) }
         ensures cause { HasInjectCause (D.fault_count disk.old) (D.fault_count disk.new) result }
     {
         if let Some((file, length)) = lowest_file(disk) {
             return Err(InjectFault::NotEmpty { file, length });
         }
-        let rest = StoppedSite::begin(alloc, schemas, setup)?;
-        let events = EventBuffer::new(alloc, setup.groups * setup.replicas, Epoch(0))?;
+        let own = own_setup(id, setup);
+        let rest = StoppedSite::begin(alloc, id, setup)?;
+        let events = EventBuffer::new(alloc, own.groups * own.replicas, Epoch(0))?;
         let tables = copy_tables(alloc, rest.mapped.as_slice())?;
         let injector = Injector::create(alloc, rest.id, rest.limit, tables, disk)?;
         Ok(Site::of(rest, events, injector))
@@ -101,21 +102,21 @@ impl Site {
     /// Plays one event, and returns the site after it with its outcome. Only the events of the
     /// injector touch the device. If the device fails, the result is the rest of the site,
     /// unchanged.
-    pub fn step<D: LogDisk>(self, event: &SiteEvent, disk: &mut D) -> Stepped
-        requires fits { CanTake self (D.seen disk.old) event.now }
+    pub fn step<D: LogDisk>(self, event: SiteEvent, disk: &mut D) -> Stepped
+        requires fits { CanTake self (D.seen disk.old) event }
         ensures stepped { IfOn result (λ site outcome. (shape : Shape) (run : Progress) →
-            IsSite shape self (D.seen disk.old) run → EventFits shape self event.now →
-            IsSite shape site (D.seen disk.new) (site_step shape run event.now).run
-            × (outcome ≡ (site_step shape run event.now).outcome)) }
+            IsSite shape self (D.seen disk.old) run → EventFits shape self event →
+            IsSite shape site (D.seen disk.new) (site_step shape run event).run
+            × (outcome ≡ (site_step shape run event).outcome)) }
         ensures nodes { IfOn result (λ site outcome. SameSetup self site) }
         ensures stays { IfStopped result (λ stopped. (shape : Shape) (run : Progress) →
             IsSite shape self (D.seen disk.old) run → IsStoppedSite shape stopped run) }
         ensures rest { IfStopped result (λ stopped. stopped ≡ rest_of self) }
         ensures part { IsCut result → (shape : Shape) (run : Progress) →
             IsSite shape self (D.seen disk.old) run →
-            HoldsUnfinishedLog (limit_of self) run.written
-            (written_bodies shape (site_step shape run event.now).run) (D.seen disk.new) }
-        ensures untouched { uses_device event.now ≡ false → disk.new ≡ disk.old }
+            HoldsUnfinishedLog shape.site (limit_of self) run.written
+            (written_bodies shape (site_step shape run event).run) (D.seen disk.new) }
+        ensures untouched { uses_device event ≡ false → disk.new ≡ disk.old }
         ensures cause { HasStepCause (D.fault_count disk.old) (D.fault_count disk.new) result }
     {
         match event {
@@ -151,12 +152,12 @@ impl Site {
         self.nodes.sent_len()
     }
 
-    /// Returns its tables. Allocates nothing.
+    /// Returns its tables: at each key the row, its author and its epoch. Allocates nothing.
     pub fn tables(&self) -> &Tables
         ensures { (shape : Shape) (seen : ℕ → List ℕ) (run : Progress) →
             IsSite shape self.now seen run →
-            (table key : ℕ) → rows_in result.now table key
-            ≡ row_at shape.site table key run.journal }
+            (table key : ℕ) → held_at result.now table key
+            ≡ held_by table key run.journal }
     {
         &self.tables
     }
@@ -225,6 +226,7 @@ impl Site {
             events,
             injector,
             made: rest.made,
+            closed: rest.closed,
         }
     }
 
@@ -243,45 +245,46 @@ impl Site {
             nodes: self.nodes,
             limit: self.injector.limit(),
             made: self.made,
+            closed: self.closed,
         };
         (rest, self.events, self.injector)
     }
 
     // Plays an event that does not touch the device.
-    fn step_inside(self, event: &SiteEvent) -> Result<(Site, Outcome), NoMemory>
-        requires inside { uses_device event.now ≡ false }
-        requires fits { (seen : ℕ → List ℕ) × CanTake self seen event.now }
+    fn step_inside(self, event: SiteEvent) -> Result<(Site, Outcome), NoMemory>
+        requires inside { uses_device event ≡ false }
+        requires fits { (seen : ℕ → List ℕ) × CanTake self seen event }
         ensures stepped { IfOk result (λ pair. (shape : Shape) (seen : ℕ →
-            List ℕ) (run : Progress) → IsSite shape self seen run → EventFits shape self event.now →
-            IsSite shape pair.0 seen (site_step shape run event.now).run
-            × (pair.1 ≡ (site_step shape run event.now).outcome)) }
+            List ℕ) (run : Progress) → IsSite shape self seen run → EventFits shape self event →
+            IsSite shape pair.0 seen (site_step shape run event).run
+            × (pair.1 ≡ (site_step shape run event).outcome)) }
         ensures nodes { IfOk result (λ pair. SameSetup self pair.0) }
     {
-        if let Some((group, epoch)) = self.loss_against(event) {
+        if let Some((group, epoch)) = self.loss_against(&event) {
             return Ok((self, Outcome::SiteLost { group, epoch }));
         }
         match event {
             SiteEvent::Tx(operations) => self.transact(operations),
-            SiteEvent::Close(gci) => self.close(*gci),
-            SiteEvent::Deliver(place) => self.deliver(*place),
+            SiteEvent::Close(gci) => self.close(gci),
+            SiteEvent::Deliver(place) => self.deliver(place),
             SiteEvent::DeliverAll => self.deliver_all(),
             SiteEvent::Inject => unreachable!(),
-            SiteEvent::Fail(node) => self.fail(*node),
-            SiteEvent::Restart(node) => self.restart(*node),
+            SiteEvent::Fail(node) => self.fail(node),
+            SiteEvent::Restart(node) => self.restart(node),
             SiteEvent::Resend => self.resend(),
             SiteEvent::Injector => unreachable!(),
         }
     }
 
     // Plays a client's transaction: it is refused and changes nothing, or it is accepted.
-    fn transact(self, operations: &ClientOps) -> Result<(Site, Outcome), NoMemory>
+    fn transact(self, operations: ClientOps) -> Result<(Site, Outcome), NoMemory>
         requires fits { (seen : ℕ → List ℕ) × (shape : Shape) × (run : Progress)
-            × IsSite shape self seen run × (run.lost ≡ None) × TxFits shape self operations.now }
+            × IsSite shape self seen run × (run.lost ≡ None) × TxFits shape self operations }
         ensures stepped { IfOk result (λ pair. (shape : Shape) (seen : ℕ →
             List ℕ) (run : Progress) → IsSite shape self seen run →
-            TxFits shape self operations.now →
-            IsSite shape pair.0 seen (tx_step shape operations.now run).run
-            × (pair.1 ≡ (tx_step shape operations.now run).outcome)) }
+            TxFits shape self operations →
+            IsSite shape pair.0 seen (tx_step shape operations run).run
+            × (pair.1 ≡ (tx_step shape operations run).outcome)) }
         ensures nodes { IfOk result (λ pair. SameSetup self pair.0) }
     {
         let Some(transid) = self.clock.next_transid() else {
@@ -309,12 +312,12 @@ impl Site {
         requires accepted { (seen : ℕ → List ℕ) × (shape : Shape) × (run : Progress)
             × (operations : List ClientOp) × IsSite shape self seen run × (run.lost ≡ None)
             × TxFits shape self operations
-            × (refusal_of (rows_of shape run) operations ≡ None)
+            × (refusal_of (rows_of run) operations ≡ None)
             × (changes ≡ tx_changes shape operations run) }
         ensures committed { IfOk result (λ pair. (shape : Shape) (seen : ℕ →
             List ℕ) (run : Progress) (operations : List ClientOp) → IsSite shape self seen run →
             TxFits shape self operations →
-            refusal_of (rows_of shape run) operations ≡ None →
+            refusal_of (rows_of run) operations ≡ None →
             changes ≡ tx_changes shape operations run →
             IsSite shape pair.0 seen (committed shape operations run)
             × (pair.1 ≡ commit_outcome (committed shape operations run))) }
@@ -343,9 +346,9 @@ impl Site {
     // Closes the open epoch: the owners send their Dones, and the next epoch opens.
     fn close(self, gci: bool) -> Result<(Site, Outcome), NoMemory>
         requires fits { (seen : ℕ → List ℕ) × (shape : Shape) × (run : Progress)
-            × IsSite shape self seen run × (run.lost ≡ None) × (opened_of self + 2 ^ 32 < 2 ^ 64) }
+            × IsSite shape self seen run × (run.lost ≡ None) × (closed_by self + 1 ≤ most_closed) }
         ensures closed { IfOk result (λ pair. (shape : Shape) (seen : ℕ → List ℕ) (run : Progress) →
-            IsSite shape self seen run →
+            IsSite shape self seen run → closed_by self + 1 ≤ most_closed →
             IsSite shape pair.0 seen (close_step shape gci run).run
             × (pair.1 ≡ (close_step shape gci run).outcome)) }
         ensures nodes { IfOk result (λ pair. SameSetup self pair.0) }
@@ -355,6 +358,7 @@ impl Site {
         let Some(epoch) = site.clock.close(gci) else {
             unreachable!();
         };
+        site.closed += 1;
         let nodes = site.nodes.close(prev, site.clock.open())?;
         let sent = nodes.sent_len();
         let site = Site { nodes, ..site };
@@ -389,8 +393,7 @@ impl Site {
     // Restarts a node that is down.
     fn restart(self, node: u32) -> Result<(Site, Outcome), NoMemory>
         requires fits { (seen : ℕ → List ℕ) × (shape : Shape) × (run : Progress)
-            × IsSite shape self seen run × (run.lost ≡ None) × (node < shape.buckets)
-            × (opened_of self + 1 < 2 ^ 64) }
+            × IsSite shape self seen run × (run.lost ≡ None) × (node < shape.buckets) }
         ensures restarted { IfOk result (λ pair. (shape : Shape) (seen : ℕ →
             List ℕ) (run : Progress) → IsSite shape self seen run → run.lost ≡ None →
             IsSite shape pair.0 seen (restart_step node run).run
@@ -490,8 +493,8 @@ impl Site {
         ensures stays { IfStopped result (λ stopped. stopped ≡ rest_of self) }
         ensures part { IsCut result → (shape : Shape) (run : Progress) →
             IsSite shape self (D.seen disk.old) run →
-            HoldsUnfinishedLog (limit_of self) run.written
-            (written_bodies shape (injected shape run)) (D.seen disk.new) }
+            HoldsUnfinishedLog shape.site (limit_of self) run.written
+            (written_bodies shape (with_all_taken shape run)) (D.seen disk.new) }
         ensures cause { HasStepCause (D.fault_count disk.old) (D.fault_count disk.new) result }
     {
         let (rest, events, injector) = self.apart();
@@ -510,10 +513,10 @@ impl Site {
     fn following(rest: StoppedSite, turn: TakenEpochs) -> (Site, Outcome)
         requires fits { (shape : Shape) × (seen : ℕ → List ℕ) × (run : Progress)
             × IsStoppedSite shape rest run
-            × IsInjectorAt shape turn.events turn.injector seen (injected shape run) }
+            × IsInjectorAt shape turn.events turn.injector seen (with_all_taken shape run) }
         ensures injected { (shape : Shape) (seen : ℕ → List ℕ) (run : Progress) →
             IsStoppedSite shape rest run →
-            IsInjectorAt shape turn.events turn.injector seen (injected shape run) →
+            IsInjectorAt shape turn.events turn.injector seen (with_all_taken shape run) →
             turn.count ≡ length (worth_logging shape run.journal (takeable shape run)) →
             IsSite shape result.0 seen (inject_step shape run).run
             × (result.1 ≡ (inject_step shape run).outcome) }
@@ -543,17 +546,17 @@ impl Site {
 
     // Plays `injector`: the injector stopped, and recovers its log from the device.
     fn begin_again<D: LogDisk>(self, disk: &mut D) -> Stepped
-        requires fits { (shape : Shape) × (run : Progress) × IsSite shape self (D.seen disk.old) run
-            × (opened_of self < 2 ^ 64) }
+        requires fits { (shape : Shape) × (run : Progress)
+            × IsSite shape self (D.seen disk.old) run }
         ensures recovered { IfOn result (λ site outcome. (shape : Shape) (run : Progress) →
-            IsSite shape self (D.seen disk.old) run → opened_of self < 2 ^ 64 →
+            IsSite shape self (D.seen disk.old) run →
             IsSite shape site (D.seen disk.new) (injector_step shape run).run
             × (outcome ≡ (injector_step shape run).outcome)) }
         ensures nodes { IfOn result (λ site outcome. SameSetup self site) }
         ensures stays { IfStopped result (λ stopped. stopped ≡ rest_of self) }
         ensures part { IsCut result → (shape : Shape) (run : Progress) →
-            IsSite shape self (D.seen disk.old) run → opened_of self < 2 ^ 64 →
-            IsLogImage A (limit_of self) (written_bodies shape run) (D.seen disk.new) }
+            IsSite shape self (D.seen disk.old) run →
+            IsLogImage shape.site (limit_of self) (written_bodies shape run) (D.seen disk.new) }
         ensures cause { HasStepCause (D.fault_count disk.old) (D.fault_count disk.new) result }
     {
         let rest = self.apart().0;

@@ -2,12 +2,13 @@ ghost use Rattle.std.specs.Prelude.{◌≡◌, ◌++◌, ◌<◌, ◌*◌, ◌^�
 ghost use Rattle.rb_journal_defs.specs.Body.{Shape};
 ghost use Rattle.rb_play_defs.specs.Step.{Progress, beginning, sent_to_injector};
 ghost use Rattle.rb_nodes.specs.Net.{HasGroups, SameSize};
-ghost use Rattle.rb_site.specs.Site.{AreDeclared, shape_of};
-ghost use Rattle.rb_site.specs.Stepped.{IsStoppedSite, stepped_of};
+ghost use Rattle.rb_play_defs.specs.Play.{setup_at, shape_of};
+ghost use Rattle.rb_site.specs.Site.{AreDeclared, IsStoppedSite};
+ghost use Rattle.rb_site.specs.Stepped.{stepped_of};
 
 use crate::mapping::map_tables;
 use crate::site::Site;
-use rb_base::{MappedTables, NoMemory, Outcome, Schema, SiteId, SiteSetup};
+use rb_base::{MappedTables, NoMemory, Outcome, Setup, SiteId, SiteSetup};
 use rb_commit::Clock;
 use rb_nodes::SiteNodes;
 use rb_store::Tables;
@@ -37,39 +38,41 @@ pub struct StoppedSite {
     pub(crate) nodes: SiteNodes,
     // The size at which binlog files are rotated, in bytes.
     pub(crate) limit: u64,
+    // How many changes the site made itself.
     pub(crate) made: u64,
+    // How many epochs it closed.
+    pub(crate) closed: u64,
 }
 
 impl StoppedSite {
-    /// Returns site A at its start, with these tables and without an injector.
-    pub(crate) fn begin(
-        alloc: Global,
-        schemas: &[Schema],
-        setup: SiteSetup,
-    ) -> Result<StoppedSite, NoMemory>
-        requires declared { AreDeclared (shape_of schemas.now setup.groups setup.replicas) }
-        requires some { 0 < setup.groups * setup.replicas }
-        requires few { setup.groups * setup.replicas < 2 ^ 32 }
-        requires tables { length schemas.now < 2 ^ 16 }
-        ensures begun { IfOk result (λ site.
-            IsStoppedSite (shape_of schemas.now setup.groups setup.replicas) site
-            (beginning setup.groups setup.replicas)) }
-        ensures nodes { IfOk result (λ site. HasGroups setup.groups setup.replicas site.nodes) }
-        ensures limit { IfOk result (λ site. site.limit ≡ setup.limit) }
+    /// Returns a site of a setup at its start, without an injector.
+    pub(crate) fn begin(alloc: Global, id: SiteId, setup: &Setup) -> Result<StoppedSite, NoMemory>
+        requires declared { AreDeclared (shape_of setup.now id) }
+        requires some { 0 < (setup_at id setup.now).groups * (setup_at id setup.now).replicas }
+        requires few { (setup_at id setup.now).groups * (setup_at id setup.now).replicas < 2 ^ 32 }
+        requires tables { length setup.now.tables < 2 ^ 16 }
+        ensures begun { IfOk result (λ site. IsStoppedSite (shape_of setup.now id) site
+            (beginning (setup_at id setup.now).groups (setup_at id setup.now).replicas)) }
+        ensures nodes { IfOk result (λ site. HasGroups (setup_at id setup.now).groups
+            (setup_at id setup.now).replicas site.nodes) }
+        ensures limit { IfOk result (λ site. site.limit ≡ (setup_at id setup.now).limit) }
     {
+        let own = own_setup(id, setup);
+        let schemas = setup.tables.as_slice();
         let clock = Clock::new(alloc);
         let tables = Tables::new(alloc, schemas)?;
         let mapped = map_tables(alloc, schemas)?;
-        let nodes = SiteNodes::new(alloc, setup.groups, setup.replicas, clock.open())?;
+        let nodes = SiteNodes::new(alloc, own.groups, own.replicas, clock.open())?;
         Ok(StoppedSite {
             alloc,
-            id: SiteId::A,
+            id,
             tables,
             mapped,
             clock,
             nodes,
-            limit: setup.limit,
+            limit: own.limit,
             made: 0,
+            closed: 0,
         })
     }
 
@@ -90,6 +93,16 @@ impl StoppedSite {
         }
         self.nodes.resend()?;
         Ok(())
+    }
+}
+
+/// Returns the groups, nodes and limit of one site of a setup.
+pub(crate) fn own_setup(id: SiteId, setup: &Setup) -> SiteSetup
+    ensures { result ≡ setup_at id setup.now }
+{
+    match id {
+        SiteId::A => setup.a,
+        SiteId::B => setup.b,
     }
 }
 

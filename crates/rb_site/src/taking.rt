@@ -2,7 +2,7 @@ ghost use Rattle.std.specs.Prelude.{◌≡◌, ℕ, List, length, IfOk, OnErr};
 ghost use Rattle.rb_disk.specs.Fault.{HasDiskCause};
 ghost use Rattle.rb_journal_defs.specs.Body.{Shape};
 ghost use Rattle.rb_inject.specs.Injector.{limit_of};
-ghost use Rattle.rb_play_defs.specs.Step.{Progress, injected, takeable, worth_logging, written_bodies};
+ghost use Rattle.rb_play_defs.specs.Step.{Progress, with_all_taken, takeable, worth_logging, written_bodies};
 ghost use Rattle.rb_play_defs.specs.UnfinishedLog.{HoldsUnfinishedLog};
 ghost use Rattle.rb_site.specs.Inject.{IsInjectorAt, HasTaken};
 
@@ -29,13 +29,13 @@ pub(crate) fn take_epochs<D: LogDisk>(
         × IsInjectorAt shape events injector (D.seen disk.old) run }
     ensures taken { IfOk result (λ turn. (shape : Shape) (run : Progress) →
         IsInjectorAt shape events injector (D.seen disk.old) run →
-        IsInjectorAt shape turn.events turn.injector (D.seen disk.new) (injected shape run)
+        IsInjectorAt shape turn.events turn.injector (D.seen disk.new) (with_all_taken shape run)
         × (turn.count ≡ length (worth_logging shape run.journal (takeable shape run)))) }
     ensures limit { IfOk result (λ turn. limit_of turn.injector ≡ limit_of injector) }
     ensures part { OnErr result ((shape : Shape) (run : Progress) →
         IsInjectorAt shape events injector (D.seen disk.old) run →
-        HoldsUnfinishedLog (limit_of injector) run.written
-        (written_bodies shape (injected shape run)) (D.seen disk.new)) }
+        HoldsUnfinishedLog shape.site (limit_of injector) run.written
+        (written_bodies shape (with_all_taken shape run)) (D.seen disk.new)) }
     ensures cause { HasDiskCause (D.fault_count disk.old) (D.fault_count disk.new) result }
 {
     let mut events = events;
@@ -73,8 +73,8 @@ fn take_next<D: LogDisk>(
     ensures limit { IfOk result (λ pair. limit_of pair.0 ≡ limit_of injector) }
     ensures part { OnErr result ((shape : Shape) (run : Progress) →
         IsInjectorAt shape events.old injector (D.seen disk.old) run →
-        HoldsUnfinishedLog (limit_of injector) run.written
-        (written_bodies shape (injected shape run)) (D.seen disk.new)) }
+        HoldsUnfinishedLog shape.site (limit_of injector) run.written
+        (written_bodies shape (with_all_taken shape run)) (D.seen disk.new)) }
     ensures cause { HasDiskCause (D.fault_count disk.old) (D.fault_count disk.new) result }
 {
     let Some(assembled) = events.take_epoch() else {

@@ -1,15 +1,15 @@
-ghost use Rattle.std.specs.Prelude.{◌≡◌, ◌≤◌, ◌<◌, ℕ, [], ◌∷◌, Some, codes, IfOk};
-ghost use Rattle.rb_base.specs.declared.schema.Column.TheVariants as columns;
+ghost use Rattle.std.specs.Prelude.{◌≡◌, ◌≤◌, ◌<◌, ℕ, [], ◌∷◌, Some, IfOk};
 ghost use Rattle.rb_base.specs.declared.row.Value.TheVariants as values;
 ghost use Rattle.rb_base.specs.declared.script.Op.TheVariants.{Ins};
 ghost use Rattle.rb_journal_defs.specs.Body.{Shape};
 ghost use Rattle.rb_play_defs.specs.Step.{Progress, site_step};
 ghost use Rattle.rb_play_defs.specs.declared.event.SiteEvent.TheVariants.{Tx};
+ghost use Rattle.rb_site_tests.specs.Trial.{one_setup};
 ghost use Rattle.rb_site.specs.Site.{IsSite, EventFits, CanTake, groups_of};
 
 use rb_base::{
-    Bytes, ClientOp, ClientOps, Column, Columns, Epoch, IndexRow, Items, NoMemory, Op, Outcome,
-    Row, Schema, Schemas, SiteSetup, Value, Values,
+    Bytes, ClientOp, ClientOps, Column, Columns, Epoch, IndexRow, Items, Mode, NoMemory, Op,
+    Outcome, Row, Schema, Schemas, Setup, SiteId, SiteSetup, Value, Values,
 };
 use rb_disk::{LogDisk, MemoryDisk};
 use rb_evbuf::Missing;
@@ -29,19 +29,28 @@ fn a_site_goes_to_another_thread() {
     moves::<Stepped>();
 }
 
-// Returns the table `t` of one number.
-fn one_table(alloc: Global) -> Result<Schemas, NoMemory>
-    ensures { IfOk result (λ schemas. schemas
-        ≡ record { name = codes "t"; columns = columns.Num ∷ [] } ∷ []) }
+// Returns a setup with the table `t` of one number, and with one node at each site.
+fn one_setup(alloc: Global) -> Result<Setup, NoMemory>
+    ensures { IfOk result (λ setup. setup ≡ one_setup) }
 {
     let mut columns = Columns::new(alloc);
     columns.push(Column::Num)?;
-    let mut schemas = Schemas::new(alloc);
-    schemas.push(Schema {
+    let mut tables = Schemas::new(alloc);
+    tables.push(Schema {
         name: Bytes::from_vec(Vec::from_slice(alloc, b"t")?),
         columns,
     })?;
-    Ok(schemas)
+    let one_node = SiteSetup {
+        groups: 1,
+        replicas: 1,
+        limit: 1048576,
+    };
+    Ok(Setup {
+        mode: Mode::Plain,
+        a: one_node,
+        b: one_node,
+        tables,
+    })
 }
 
 // Returns the transaction that inserts one row into `t`.
@@ -68,20 +77,17 @@ fn insert(alloc: Global, key: u64, number: u64) -> Result<SiteEvent, NoMemory>
     Ok(SiteEvent::Tx(operations))
 }
 
-// The length in bytes at which the files are rotated.
-const LIMIT: u64 = 1048576;
-
 // Plays one event. Returns the site and the outcome if the event ended.
 fn one_event<D: LogDisk>(
     site: Site,
-    event: &SiteEvent,
+    event: SiteEvent,
     disk: &mut D,
 ) -> Result<(Site, Outcome), InjectFault>
-    requires fits { CanTake site (D.seen disk.old) event.now }
+    requires fits { CanTake site (D.seen disk.old) event }
     ensures stepped { IfOk result (λ pair. (shape : Shape) (run : Progress) →
-        IsSite shape site (D.seen disk.old) run → EventFits shape site event.now →
-        IsSite shape pair.0 (D.seen disk.new) (site_step shape run event.now).run
-        × (pair.1 ≡ (site_step shape run event.now).outcome)) }
+        IsSite shape site (D.seen disk.old) run → EventFits shape site event →
+        IsSite shape pair.0 (D.seen disk.new) (site_step shape run event).run
+        × (pair.1 ≡ (site_step shape run event).outcome)) }
     ensures groups { IfOk result (λ pair. groups_of pair.0 ≡ groups_of site) }
 {
     match site.step(event, disk) {
@@ -97,16 +103,11 @@ fn two_rows<D: LogDisk>(alloc: Global, disk: &mut D) -> Result<(Site, Outcomes),
         × IsSite shape pair.0 (D.seen disk.new) run) }
     ensures groups { IfOk result (λ pair. groups_of pair.0 ≡ 1) }
 {
-    let schemas = one_table(alloc)?;
-    let setup = SiteSetup {
-        groups: 1,
-        replicas: 1,
-        limit: LIMIT,
-    };
-    let site = Site::create(alloc, schemas.as_slice(), setup, disk)?;
-    let (site, first) = one_event(site, &insert(alloc, 5, 7)?, disk)?;
-    let (site, second) = one_event(site, &insert(alloc, 6, 8)?, disk)?;
-    let (site, closed) = one_event(site, &SiteEvent::Close(false), disk)?;
+    let setup = one_setup(alloc)?;
+    let site = Site::create(alloc, SiteId::A, &setup, disk)?;
+    let (site, first) = one_event(site, insert(alloc, 5, 7)?, disk)?;
+    let (site, second) = one_event(site, insert(alloc, 6, 8)?, disk)?;
+    let (site, closed) = one_event(site, SiteEvent::Close(false), disk)?;
     let mut outcomes = Outcomes::new(alloc);
     outcomes.push(first)?;
     outcomes.push(second)?;
@@ -127,7 +128,7 @@ fn go_on<D: LogDisk>(
         × IsSite shape after (D.seen disk.new) run) }
     ensures groups { IfOk result (λ after. groups_of after ≡ groups_of site) }
 {
-    let (after, outcome) = one_event(site, &event, disk)?;
+    let (after, outcome) = one_event(site, event, disk)?;
     outcomes.push(outcome)?;
     Ok(after)
 }

@@ -1,4 +1,3 @@
-pub mod LegalLaws
 pub mod ReadLaws
 pub mod Running
 pub mod TableLaws

@@ -21,7 +21,8 @@ use Rattle.rb_disk.specs.Disk.{IsLowestFile}
 use Rattle.rb_play_defs.specs.UnfinishedLog.{HoldsUnfinishedLog}
 use Rattle.rb_top.proofs.Running.{whole_log}
 use Rattle.rb_top.specs.declared.status.Status.{Status}
-use Rattle.rb_top.specs.Program.{IsReadFrom, IsDiskFault, HasStopped, AreEmpty, IsFirstHeld}
+use Rattle.rb_pair.specs.Held.{AreEmpty, IsFirstHeld}
+use Rattle.rb_top.specs.Program.{IsReadFrom, IsDiskFault, HasStopped}
 use Rattle.rb_top.specs.declared.status.Status.TheVariants as statuses
 
 -- a text of too many bytes is refused as a whole
@@ -92,12 +93,12 @@ nothing_printed : (held : Option (List ℕ)) (report : List ℕ) → GrowsByPref
 nothing_printed held report = (0, omega arith, appends_nothing held)
 
 -- a run that stopped, by what it left of the log
-pub stopped : (left_old left_new held_old held_new : Option (List ℕ)) (seen : ℕ → List ℕ) (script : Script) (status : Status) → IsReadFrom left_old script → IsAtEnd left_new → GrowsByPrefix held_old held_new (report_of script) → (IsDiskFault status → Keeps held_old held_new) → (status ≡ statuses.WriteFault → HoldsLogOf script seen) → (Keeps held_old held_new ⊎ HoldsLogOf script seen) → HoldsUnfinishedLog script.setup.a.limit 0 (log_of script) seen → HasStopped left_old left_new held_old held_new seen status
+pub stopped : (left_old left_new held_old held_new : Option (List ℕ)) (seen : ℕ → List ℕ) (script : Script) (status : Status) → IsReadFrom left_old script → IsAtEnd left_new → GrowsByPrefix held_old held_new (report_of script) → (IsDiskFault status → Keeps held_old held_new) → (status ≡ statuses.WriteFault → HoldsLogOf script seen) → (Keeps held_old held_new ⊎ HoldsLogOf script seen) → HoldsUnfinishedLog A script.setup.a.limit 0 (log_of script) seen → HasStopped left_old left_new held_old held_new seen status
 stopped left_old left_new held_old held_new seen script status read end report silent whole printed part =
     record { script = script; read = read; end = end; report = report; log = part; silent = silent; printed = printed; whole = whole }
 
 -- by a fault of the device, or `NoMemory` within the run: nothing was printed
-pub stopped_running : (left_old left_new held : Option (List ℕ)) (seen : ℕ → List ℕ) (script : Script) (status : Status) → (status ≡ statuses.WriteFault → ⊥) → IsReadFrom left_old script → IsAtEnd left_new → HoldsUnfinishedLog script.setup.a.limit 0 (log_of script) seen → HasStopped left_old left_new held held seen status
+pub stopped_running : (left_old left_new held : Option (List ℕ)) (seen : ℕ → List ℕ) (script : Script) (status : Status) → (status ≡ statuses.WriteFault → ⊥) → IsReadFrom left_old script → IsAtEnd left_new → HoldsUnfinishedLog A script.setup.a.limit 0 (log_of script) seen → HasStopped left_old left_new held held seen status
 stopped_running left_old left_new held seen script status not_printing read end left =
     stopped left_old left_new held held seen script status read end (nothing_printed held (report_of script)) (λ _. keeps_self held) (λ same. absurd (not_printing same)) (inl (keeps_self held)) left
 

@@ -5,9 +5,7 @@ use Rattle.std.specs.Io.KnownBytes.{Appends, Keeps, IsAtEnd}
 use Rattle.rb_io.specs.Prefix.{GrowsByPrefix}
 use Rattle.rb_text_defs.specs.declared.script.Script.{Script}
 use Rattle.rb_text_defs.specs.Script.{script_of}
-use Rattle.rb_base.specs.declared.site.SiteId.{SiteId}
-use Rattle.rb_base.specs.declared.site.SiteId.TheVariants.{A, B}
-use Rattle.rb_disk.specs.Disk.{IsLowestFile}
+use Rattle.rb_base.specs.declared.site.SiteId.TheVariants.{A}
 use Rattle.rb_play_defs.specs.Play.{log_of, report_of, HoldsLogOf}
 use Rattle.rb_play_defs.specs.UnfinishedLog.{HoldsUnfinishedLog}
 use Rattle.rb_top.specs.declared.status.Status.{Status}
@@ -32,16 +30,6 @@ IsDiskFault status = ⊥
 abbrev pub IsNotEmpty : Status → Type 0
 IsNotEmpty (statuses.NotEmpty site file size) = Unit {0}
 IsNotEmpty status = ⊥
-
--- both devices are empty
-abbrev pub AreEmpty : (seen_a seen_b : ℕ → List ℕ) → Type 0
-AreEmpty seen_a seen_b = ((file : ℕ) → seen_a file ≡ []) × ((file : ℕ) → seen_b file ≡ [])
-
--- this file of this site is the first that is not empty, site A before site B and the lowest file
--- first, and has this length
-abbrev pub IsFirstHeld : SiteId → (file size : ℕ) → (seen_a seen_b : ℕ → List ℕ) → Type 0
-IsFirstHeld A file size seen_a seen_b = IsLowestFile file size seen_a
-IsFirstHeld B file size seen_a seen_b = ((other : ℕ) → seen_a other ≡ []) × IsLowestFile file size seen_b
 
 -- the run did not begin
 abbrev pub IsBeforeRun : Status → Type 0
@@ -100,7 +88,7 @@ pub record HasStopped (left_old left_new held_old held_new : Option (List ℕ)) 
   pub read : IsReadFrom left_old script
   pub end : IsAtEnd left_new
   pub report : GrowsByPrefix held_old held_new (report_of script)
-  pub log : HoldsUnfinishedLog script.setup.a.limit 0 (log_of script) seen
+  pub log : HoldsUnfinishedLog A script.setup.a.limit 0 (log_of script) seen
   pub silent : IsDiskFault status → Keeps held_old held_new
   pub printed : Keeps held_old held_new ⊎ HoldsLogOf script seen
   pub whole : status ≡ statuses.WriteFault → HoldsLogOf script seen

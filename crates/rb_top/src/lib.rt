@@ -1,13 +1,12 @@
-//! The program. It reads a script, runs it over site A and its log device, and prints the report;
-//! or it reads a log and prints its epochs.
+//! The program. It reads a script, runs it over two sites and their log devices, and prints the
+//! report; or it reads a log and prints its epochs.
 //!
 //! [`top`] carries the project's theorem: what the sink and the device hold at each status, and
-//! when each status comes. It uses the parser, the site, the printer and the edges; the program's
-//! `main` uses it.
+//! when each status comes. It uses the parser, the pair of sites, the printer and the edges; the
+//! program's `main` uses it.
 #![tactic(auto)]
 
 mod fault;
-mod held;
 mod play;
 mod program;
 mod read;

@@ -3,18 +3,19 @@ ghost use Rattle.rb_base.specs.Faults.{Rose};
 ghost use Rattle.rb_text_defs.specs.declared.script.BadLine.{BadLine};
 ghost use Rattle.rb_text_defs.specs.declared.script.Script.{Script};
 ghost use Rattle.rb_text_defs.specs.Script.{script_of};
-ghost use Rattle.rb_top.specs.Program.{are_run, are_read, AreEmpty, IsFirstHeld, IsNotEmpty, IsBadLog, IsDiskFault, IsBeforeRun, IsRunFault, IsReadingEnd, IsReadingFault, HasRun, HasStopped, IsUntouched};
+ghost use Rattle.rb_top.specs.Program.{are_run, are_read, IsNotEmpty, IsBadLog, IsDiskFault, IsBeforeRun, IsRunFault, IsReadingEnd, IsReadingFault, HasRun, HasStopped, IsUntouched};
+ghost use Rattle.rb_pair.specs.Held.{AreEmpty, IsFirstHeld};
 ghost use Rattle.rb_top.specs.ReadLog.{most_log_bytes, bad_event_of, HasReadLog, HasMetBadEvent, HasReadPrefix};
 
 use crate::fault::ReadLogFault;
-use crate::held::{HeldFile, first_held};
 use crate::read::read_log;
 use crate::run::run;
 use crate::status::Status;
 use crate::words::{are_read_words, are_run_words};
 use rb_base::{Bytes, Field, OutFault, SiteId};
-use rb_disk::{DiskLogFault, LogDisk};
+use rb_disk::LogDisk;
 use rb_io::{ReadAllFault, Sink, Source, read_all, write_all};
+use rb_pair::{HeldFile, PairFault, first_held};
 use rb_script::{Limit, MOST_SCRIPT_BYTES, ParseFault, ScriptKind, parse};
 use std::alloc::Global;
 use std::thread::Threads;
@@ -135,7 +136,7 @@ pub fn top<R: Threads + Sync, I: Source, O: Sink, D: LogDisk>(
         if let Some(HeldFile { site, file, length }) = first_held(disk_a, disk_b) {
             return Status::NotEmpty { site, file, length };
         }
-        return run_script(alloc, script, out, disk_a);
+        return run_script(alloc, script, out, disk_a, disk_b);
     }
     if are_read_words(words) {
         return print_log(alloc, script, out);
@@ -149,8 +150,10 @@ fn run_script<I: Source, O: Sink, D: LogDisk>(
     script: &mut I,
     out: &mut O,
     disk_a: &mut D,
+    disk_b: &mut D,
 ) -> Status
-    requires a_is_empty { (file : ℕ) → D.seen disk_a.old file ≡ [] }
+    requires empty { AreEmpty (D.seen disk_a.old) (D.seen disk_b.old) }
+    ensures other_device { disk_b.new ≡ disk_b.old }
     ensures run_meets_headline { result ≡ Status.Done →
         HasRun (I.left script.old) (I.left script.new) (O.held out.old) (O.held out.new)
         (D.seen disk_a.new) }
@@ -206,10 +209,11 @@ fn run_script<I: Source, O: Sink, D: LogDisk>(
         Err(ParseFault::Bad { line, kind }) => return Status::BadScript { line, kind },
         Err(ParseFault::NoMemory) => return Status::NoMemory,
     };
-    let report = match run(alloc, parsed, disk_a) {
+    let report = match run(alloc, parsed, disk_a, disk_b) {
         Ok(report) => report,
-        Err(DiskLogFault::DiskFault) => return Status::DiskFault { site: SiteId::A },
-        Err(DiskLogFault::NoMemory) => return Status::NoMemory,
+        Err(PairFault::DiskFault(site)) => return Status::DiskFault { site },
+        Err(PairFault::NoMemory) => return Status::NoMemory,
+        Err(PairFault::NotEmpty { .. }) => unreachable!(),
     };
     match write_all(out, report.as_slice()) {
         Ok(()) => Status::Done,

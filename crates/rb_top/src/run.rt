@@ -9,12 +9,14 @@ ghost use Rattle.rb_text_defs.specs.Legal.{IsLegal};
 ghost use Rattle.rb_play_defs.specs.Step.{Progress, written_bodies};
 ghost use Rattle.rb_play_defs.specs.Play.{tables_left, log_of, log_rows, report_of, HoldsLogOf};
 ghost use Rattle.rb_play_defs.specs.UnfinishedLog.{HoldsUnfinishedLog};
-ghost use Rattle.rb_disk.specs.Fault.{HasDiskCause};
+ghost use Rattle.rb_pair.specs.Fault.{IsNotEmpty, HasPairCause};
+ghost use Rattle.rb_pair.specs.Held.{AreEmpty};
 ghost use Rattle.rb_site.specs.Site.{IsSite, limit_of};
 
 use crate::play::play;
 use rb_base::{Bytes, NoMemory, Schema, SiteId};
-use rb_disk::{DiskLogFault, LogDisk};
+use rb_disk::LogDisk;
+use rb_pair::PairFault;
 use rb_print::{print_log, print_table};
 use rb_script::Script;
 use rb_site::Site;
@@ -25,20 +27,24 @@ use std::alloc::Global;
 pub(crate) fn run<D: LogDisk>(
     alloc: Global,
     script: Script,
-    disk: &mut D,
-) -> Result<Bytes, DiskLogFault>
+    disk_a: &mut D,
+    disk_b: &mut D,
+) -> Result<Bytes, PairFault>
     requires legal { IsLegal script }
-    requires empty { (file : ℕ) → D.seen disk.old file ≡ [] }
+    requires empty { AreEmpty (D.seen disk_a.old) (D.seen disk_b.old) }
     ensures ok { IfOk result (λ report. (report ≡ report_of script)
-        × HoldsLogOf script (D.seen disk.new)) }
-    ensures err { OnErr result (HoldsUnfinishedLog script.setup.a.limit 0 (log_of script)
-        (D.seen disk.new)) }
-    ensures cause { HasDiskCause (D.fault_count disk.old) (D.fault_count disk.new) result }
+        × HoldsLogOf script (D.seen disk_a.new)) }
+    ensures never_not_empty { IsNotEmpty result → ⊥ }
+    ensures other_device { disk_b.new ≡ disk_b.old }
+    ensures err { OnErr result (HoldsUnfinishedLog A script.setup.a.limit 0 (log_of script)
+        (D.seen disk_a.new)) }
+    ensures cause { HasPairCause (D.fault_count disk_a.old) (D.fault_count disk_a.new) result }
 {
     let Script { setup, events } = script;
     let mut text = Vec::from_slice(alloc, b"ndb replication report\n")?;
-    let site = play(alloc, &setup, events, &mut text, disk)?;
-    put_log(alloc, &mut text, &site)?;
+    let pair = play(alloc, &setup, events, &mut text, disk_a, disk_b)?;
+    let site = pair.site_a();
+    put_log(alloc, &mut text, site)?;
     put_tables(alloc, &mut text, setup.tables.as_slice(), site.tables())?;
     text.extend_from_slice(b"end\n")?;
     Ok(Bytes::from_vec(text))
@@ -67,7 +73,7 @@ fn put_tables(
 ) -> Result<(), NoMemory>
     requires few { length schemas.now < 2 ^ 16 }
     ensures { OnOk result ((journal : Journal) →
-        ((table key : ℕ) → rows_in tables.now table key ≡ row_at A table key journal) →
+        ((table key : ℕ) → rows_in tables.now table key ≡ row_at table key journal) →
         text.new.items ≡ text.old.items
         ++ flat_map (λ table. text_of_lines (table_lines A table))
         (tables_left schemas.now journal)) }

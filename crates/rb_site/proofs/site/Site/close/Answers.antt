@@ -9,11 +9,11 @@ close-requires-2 c =
     record { room = can_close shape c.args.gci c.args.self seen run _ held none (c.open.ensures ∙ ap (λ (h : Hand). h.opened) c.in-Some.ensures.closed) }
 
 pub returns-clause-closed : goal.returns-clause-closed
-returns-clause-closed c = λ shape seen run held.
-    let after = site_closed shape c.args.gci c.args.self _ seen run c.prev-prev.result c.open.result held
+returns-clause-closed c = λ shape seen run held room.
+    let after = site_closed shape c.args.gci c.args.self _ seen run c.prev-prev.result c.open.result held room
     c.prev-prev.ensures
     (c.open.ensures ∙ ap (λ (h : Hand). h.opened) c.in-Some.ensures.closed)
     refl refl c.in-Some.ensures.closed refl
     (λ b n holds. c.in_ok-nodes.ensures.holds b n holds)
-    refl refl refl in
-    close_is shape c.args.gci _ seen run c.in-Some.epoch c.sent_len-sent.result after (c.in-Some.ensures.some ∙ ap (λ (h : Hand). h.opened) held.clock) c.sent_len-sent.ensures
+    refl refl refl refl in
+    close_is shape c.args.gci _ seen run c.in-Some.epoch c.sent_len-sent.result after (c.in-Some.ensures.some ∙ ap (λ (h : Hand). h.opened) held.rest.clock) c.sent_len-sent.ensures

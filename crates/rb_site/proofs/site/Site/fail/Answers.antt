@@ -14,7 +14,7 @@ fail-requires c =
 pub unreachable-requires : goal.unreachable-requires
 unreachable-requires c =
     let (seen, shape, run, held, none, below) = c.requires.fits in
-    subst (FailureRefused c.args.self.nodes c.fail.new.self c.args.node) c.in-Err-NodeUp.field-0-is (λ b n holds. c.in-Err-NodeUp.ensures.refused b n holds) _ _ held.net
+    subst (FailureRefused c.args.self.nodes c.fail.new.self c.args.node) c.in-Err-NodeUp.field-0-is (λ b n holds. c.in-Err-NodeUp.ensures.refused b n holds) _ _ held.rest.net
 
 pub returns-clause-failed : goal.returns-clause-failed
 returns-clause-failed c = λ shape seen run held none.

@@ -6,13 +6,13 @@ use Rattle.rb_site.proofs.site.Site.restart.Goals as goal
 
 pub restart-requires : goal.restart-requires
 restart-requires c =
-    let (seen, shape, run, held, none, below, room) = c.requires.fits in
-    record { ready = can_restart shape c.args.self seen run c.args.node held below room }
+    let (seen, shape, run, held, none, below) = c.requires.fits in
+    record { ready = can_restart shape c.args.self seen run c.args.node held below }
 
 pub unreachable-requires : goal.unreachable-requires
 unreachable-requires c =
-    let (seen, shape, run, held, none, below, room) = c.requires.fits in
-    (subst (RestartRefused c.args.self.nodes c.restart.new.self c.args.node) c.in-Err-NodeDown.field-0-is (λ b n holds. c.in-Err-NodeDown.ensures.refused b n holds) _ _ held.net).1
+    let (seen, shape, run, held, none, below) = c.requires.fits in
+    (subst (RestartRefused c.args.self.nodes c.restart.new.self c.args.node) c.in-Err-NodeDown.field-0-is (λ b n holds. c.in-Err-NodeDown.ensures.refused b n holds) _ _ held.rest.net).1
 
 pub returns-clause-restarted : goal.returns-clause-restarted
 returns-clause-restarted c = λ shape seen run held none.

@@ -2,7 +2,8 @@ use Rattle.std.proofs.Common.{ℕ, refl, sym, ap, ◌∙◌}
 use Rattle.std.specs.Prelude.{Option, is_some}
 use Rattle.rb_base.specs.declared.epoch.Epoch.{Epoch}
 use Rattle.rb_nodes.specs.Net.{lost_in}
-use Rattle.rb_site.proofs.RecoverLaws.{there_or_none, rest_can_resend, none_lost_of, rest_resent}
+use Rattle.rb_site.proofs.FailLaws.{rest_can_resend}
+use Rattle.rb_site.proofs.RecoverLaws.{there_or_none, none_lost_of, rest_resent}
 use Rattle.rb_site.proofs.stepped.StoppedSite.send_again.Goals as goal
 
 pub resend-requires : goal.resend-requires

@@ -1,22 +1,22 @@
 ghost use Rattle.std.specs.Prelude.{◌≡◌, IfSome, IsNone};
-ghost use Rattle.rb_top.specs.Program.{AreEmpty, IsFirstHeld};
+ghost use Rattle.rb_pair.specs.Held.{AreEmpty, IsFirstHeld};
 
 use rb_base::SiteId;
 use rb_disk::{LogDisk, lowest_file};
 
 /// A file that is not empty.
 #[derive(Clone, Copy, Debug)]
-pub(crate) struct HeldFile {
+pub struct HeldFile {
     /// The site that the device belongs to.
-    pub(crate) site: SiteId,
-    pub(crate) file: u32,
+    pub site: SiteId,
+    pub file: u32,
     /// The file's length, in bytes.
-    pub(crate) length: u64,
+    pub length: u64,
 }
 
 /// Returns the first file that is not empty, site A's device before site B's and the lowest file
 /// first; `None` if both devices are empty.
-pub(crate) fn first_held<D: LogDisk>(disk_a: &D, disk_b: &D) -> Option<HeldFile>
+pub fn first_held<D: LogDisk>(disk_a: &D, disk_b: &D) -> Option<HeldFile>
     ensures held { IfSome result (λ found.
         IsFirstHeld found.site found.file found.length (D.seen disk_a.now) (D.seen disk_b.now)) }
     ensures empty { IsNone result → AreEmpty (D.seen disk_a.now) (D.seen disk_b.now) }

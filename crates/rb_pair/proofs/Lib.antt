@@ -1,0 +1,4 @@
+pub mod HeldLaws
+pub mod LegalLaws
+pub mod ActLaws
+pub mod PairLaws

@@ -1,0 +1,4 @@
+pub mod Action
+pub mod Held
+pub mod Fault
+pub mod Pair
