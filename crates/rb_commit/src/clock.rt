@@ -2,7 +2,6 @@ ghost use Rattle.std.specs.Prelude.{◌≡◌, ◌≤◌, ◌+◌, ◌-◌, ◌^
 ghost use Rattle.rb_journal_defs.specs.Clock.{first_epoch, epoch_after};
 
 use rb_base::{Epoch, FIRST_EPOCH};
-use std::alloc::Global;
 use std::marker::Model;
 
 /// The clock of a site: the open epoch, the epoch closed before it, and the number of transactions,
@@ -29,7 +28,7 @@ impl Model for Clock {
 impl Clock {
     /// Returns the clock of a new site: micro GCI 0 of GCI 1 is open, no epoch is closed, and no
     /// transaction is numbered.
-    pub fn new(_alloc: Global) -> Clock
+    pub fn new() -> Clock
         ensures { result ≡ record { opened = first_epoch; previous = 0; drawn = 0 } }
     {
         Clock {

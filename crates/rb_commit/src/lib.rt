@@ -2,8 +2,8 @@
 //! the check that judges it whole and returns its changes.
 //!
 //! Nothing here changes a site. [`prepare`] returns all changes of a transaction, or the first
-//! reason to refuse it; [`Clock`] gives the epoch that they belong to. It uses the tables, and the
-//! site uses it.
+//! reason to refuse it; [`Clock`] gives the epoch that they belong to. The crate uses the
+//! tables, and the cluster uses it.
 #![tactic(auto)]
 
 mod clock;

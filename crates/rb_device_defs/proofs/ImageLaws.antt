@@ -1,5 +1,5 @@
 -- Images of a log: the whole log, and the log after a call that was cut off.
-use Rattle.std.proofs.Common.{◌≡◌, ℕ, ◌+◌, ◌<◌, ◌≤◌, List, [], ◌∷◌, ◌++◌, length, take, refl, ap, sym, subst, ◌∙◌, inl, inr, arith, length-append}
+use Rattle.std.proofs.Common.{◌≡◌, ℕ, ◌+◌, ◌<◌, ◌≤◌, List, [], ◌∷◌, ◌++◌, length, take, refl, ap, sym, subst, ◌∙◌, inl, inr, arith, length-append, Bool, true, false}
 use Rattle.std.specs.Prelude.{◌⊎◌, Bool, true, false, nat_le, if◌then◌else◌, Option, Some, None}
 use Rattle.std.specs.List.{last_or}
 use Rattle.rb_base.specs.declared.site.SiteId.{SiteId}
@@ -16,7 +16,7 @@ use Rattle.rb_device_defs.proofs.PrefixLaws.{HoldsToEnd, prefix_of_all, last_sno
 use Rattle.rb_device_defs.proofs.RowLaws.{unrotated, rotated_rows}
 
 -- a device that holds a prefix of files holds every shorter prefix
-prefix_of_later : (number position lower shorter : ℕ) (files : List (List ℕ)) (seen : ℕ → List ℕ) → 1 ≤ lower → lower < number → HoldsPrefix number position files seen → HoldsPrefix lower shorter files seen
+pub prefix_of_later : (number position lower shorter : ℕ) (files : List (List ℕ)) (seen : ℕ → List ℕ) → 1 ≤ lower → lower < number → HoldsPrefix number position files seen → HoldsPrefix lower shorter files seen
 prefix_of_later number position lower shorter files seen some below held = record {
   before = λ earlier first under. held.before earlier first (omega (arith, under, below));
   front = ap (take shorter) (held.before lower some below);
@@ -24,7 +24,7 @@ prefix_of_later number position lower shorter files seen some below held = recor
 
 -- a device that holds a binlog to its end after a rotation, or without one, holds it to the end
 -- before that rotation
-end_chosen : (site : SiteId) (log : Binlog) (full : Bool) (seen : ℕ → List ℕ) → HoldsToEnd (if full then record log { closed = log.closed ++ rotated site (length log.closed + 1) log.last ∷ []; last = file_start site } else log) (files_in (if full then record log { closed = log.closed ++ rotated site (length log.closed + 1) log.last ∷ []; last = file_start site } else log)) seen → HoldsToEnd log (files_in (if full then record log { closed = log.closed ++ rotated site (length log.closed + 1) log.last ∷ []; last = file_start site } else log)) seen
+pub end_chosen : (site : SiteId) (log : Binlog) (full : Bool) (seen : ℕ → List ℕ) → HoldsToEnd (if full then record log { closed = log.closed ++ rotated site (length log.closed + 1) log.last ∷ []; last = file_start site } else log) (files_in (if full then record log { closed = log.closed ++ rotated site (length log.closed + 1) log.last ∷ []; last = file_start site } else log)) seen → HoldsToEnd log (files_in (if full then record log { closed = log.closed ++ rotated site (length log.closed + 1) log.last ∷ []; last = file_start site } else log)) seen
 end_chosen site log true seen held =
     prefix_of_later _ _ (length log.closed + 1) (length log.last) _ seen (omega arith) (omega (arith, length-append log.closed (rotated site (length log.closed + 1) log.last ∷ []))) held
 end_chosen site log false seen held = held
@@ -46,7 +46,7 @@ last_row site limit earlier body =
     ∙ last_snoc None (binlog_of site limit earlier).rows (row_of site (binlog_of site limit earlier) body)
 
 -- the end of an epoch at the end of a binlog, as its row gives it
-row_end : (site : SiteId) (log : Binlog) (body : EpochBody) → length (unrotated site log body).last ≡ (row_of site log body).next_position
+pub row_end : (site : SiteId) (log : Binlog) (body : EpochBody) → length (unrotated site log body).last ≡ (row_of site log body).next_position
 row_end site log body = length-append log.last (epoch_bytes body (length log.last))
 
 -- a device that holds a binlog to the end of its last epoch holds its log up to its last row
@@ -77,7 +77,7 @@ last_body (body ∷ bodies) = inr (following body bodies (last_body bodies))
     following body bodies (inr (earlier, last, is)) = (body ∷ earlier, last, ap (λ (rest : List EpochBody). body ∷ rest) is)
 
 -- a device that holds all files of a log to their end holds them up to the last row
-to_last_row : (site : SiteId) (limit : ℕ) (bodies : List EpochBody) (seen : ℕ → List ℕ) → (bodies ≡ []) ⊎ ((earlier : List EpochBody) × (body : EpochBody) × (bodies ≡ earlier ++ body ∷ [])) → HoldsToEnd (binlog_of site limit bodies) (binlog_files site limit bodies) seen → HoldsUpTo (last_or None (index_rows site limit bodies)) (binlog_files site limit bodies) seen
+pub to_last_row : (site : SiteId) (limit : ℕ) (bodies : List EpochBody) (seen : ℕ → List ℕ) → (bodies ≡ []) ⊎ ((earlier : List EpochBody) × (body : EpochBody) × (bodies ≡ earlier ++ body ∷ [])) → HoldsToEnd (binlog_of site limit bodies) (binlog_files site limit bodies) seen → HoldsUpTo (last_or None (index_rows site limit bodies)) (binlog_files site limit bodies) seen
 unfolding binlog_of
 to_last_row site limit bodies seen (inl none) held = subst (λ (b : List EpochBody). HoldsUpTo (last_or None (index_rows site limit b)) (binlog_files site limit b) seen) (sym none) tt
 to_last_row site limit bodies seen (inr (earlier, body, is)) held =
@@ -129,3 +129,17 @@ log_with site limit bodies body seen index held = record {
 pub image_of_none : (site : SiteId) (limit : ℕ) (seen : ℕ → List ℕ) → IsIndexImage [] (seen 0) → IsLogImage site limit [] seen
 unfolding binlog_of
 image_of_none site limit seen index = record { index = index; files = tt }
+
+-- files that read the same are the same image
+pub prefix_same : (row : Option IndexRow) (files : List (List ℕ)) (seen now : ℕ → List ℕ) → ((file : ℕ) → now file ≡ seen file) → HoldsUpTo row files seen → HoldsUpTo row files now
+prefix_same None files seen now same held = tt
+prefix_same (Some row) files seen now same held = record {
+  before = λ earlier from below. same earlier ∙ held.before earlier from below;
+  front = ap (take row.next_position) (same row.next_file) ∙ held.front;
+}
+
+pub image_same : (site : SiteId) (limit : ℕ) (bodies : List EpochBody) (seen now : ℕ → List ℕ) → ((file : ℕ) → now file ≡ seen file) → IsLogImage site limit bodies seen → IsLogImage site limit bodies now
+image_same site limit bodies seen now same image = record {
+  index = subst (IsIndexImage (index_rows site limit bodies)) (sym (same 0)) image.index;
+  files = prefix_same (last_or None (index_rows site limit bodies)) (binlog_files site limit bodies) seen now same image.files;
+}

@@ -1,5 +1,5 @@
 -- Images of the index file of the worked example.
-use Rattle.std.proofs.Common.{◌≡◌, ◌<◌, ℕ, ◌+◌, ◌*◌, true, false, List, [], ◌∷◌, ◌++◌, length, refl, ap, sym, ◌∙◌, arith, length-append}
+use Rattle.std.proofs.Common.{◌≡◌, ◌<◌, ℕ, true, false, List, [], ◌∷◌, length, refl, ap, sym, ◌∙◌, arith, length-append}
 use Rattle.rb_base.specs.declared.body.IndexRow.{IndexRow}
 use Rattle.rb_log_defs.specs.Index.{index_record}
 use Rattle.rb_device_defs.specs.Index.{open_records, begins_with_record, IsIndexImage}

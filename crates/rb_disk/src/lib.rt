@@ -5,7 +5,7 @@
 //! what its clauses say. A call that fails leaves the file unchanged outside the range that it
 //! names. The count of faults never falls, and it has risen at `Failed`. The devices in memory say
 //! exactly when theirs rises. The crate uses only `rb_base`; the binlog files, the index, the
-//! injector, the site and the program use it.
+//! injector, the cluster, the pair and the program use it.
 #![tactic(auto)]
 
 mod device;

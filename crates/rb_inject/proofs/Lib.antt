@@ -1,3 +1,4 @@
 mod BodyLaws
 pub mod LogLaws
 mod OpenLaws
+pub mod JournalBodies

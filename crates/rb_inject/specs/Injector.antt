@@ -63,7 +63,7 @@ body_for injector assembled = body_of_assembled injector.site injector.tables as
 abbrev pub bodies_with : List EpochBody → EpochBody → List EpochBody
 bodies_with bodies body = if has_something_to_log body then bodies ++ body ∷ [] else bodies
 
--- what a fault leaves: an image of the log without the epoch in hand, or with it if it is not too
+-- what a fault leaves: an image of the log without the epoch that is logged, or with it if it is not too
 -- large
 abbrev pub LeavesImage : LogSetup → List EpochBody → EpochBody → (seen : ℕ → List ℕ) → Type 0
 LeavesImage setup bodies body seen =

@@ -3,8 +3,8 @@
 //!
 //! An [`Injector`] represents the logged bodies (`StandsFor`), over a device that holds exactly
 //! their log. After a fault it is gone; [`Injector::recover`] then recovers the log from the
-//! device, with or without the epoch that was being logged. It uses the encoder of epochs, the
-//! binlog files and the index; the site uses it.
+//! device, with or without the epoch that was being logged. The crate uses the encoder of
+//! epochs, the binlog files and the index; the cluster uses it.
 #![tactic(auto)]
 
 mod body;

@@ -1,45 +1,43 @@
 -- The growth of a journal's bodies with its entries.
-use Rattle.std.proofs.Common.{◌≡◌, ℕ, ◌+◌, ◌%◌, ◌<◌, Bool, true, false, cond, List, [], ◌∷◌, ◌++◌, filter, map, refl, sym, ap, subst, ◌∙◌, arith}
+use Rattle.std.proofs.Common.{◌≡◌, ℕ, ◌<◌, Bool, true, false, cond, List, [], ◌∷◌, ◌++◌, filter, map, refl, sym, ap, subst, ◌∙◌, arith}
 use Rattle.std.specs.Prelude.{◌==◌, Option, if◌then◌else◌}
 use Rattle.std.specs.List.{AllByRecursion, flat_map}
 use Rattle.std.proofs.lemmas.Bool.{ne_eqb}
 use Rattle.std.proofs.lemmas.List.{append-nil, map-append}
 use Rattle.std.proofs.lemmas.List.Elements.{filter-append}
-use Rattle.std.proofs.Math.Nat.{mod-one}
-use Rattle.rb_base.specs.Bucket.{bucket_number}
 use Rattle.rb_base.specs.declared.epoch.Epoch.{Epoch}
 use Rattle.rb_base.specs.declared.site.SiteId.{SiteId}
 use Rattle.rb_base.specs.declared.site.SiteId.TheVariants.{A, B}
 use Rattle.rb_base.specs.declared.change.Change.{Change}
 use Rattle.rb_base.specs.declared.body.EpochBody.{EpochBody}
-use Rattle.rb_journal_defs.specs.Journal.{Entry, Client, Applied, Closed, Journal, epoch_of, closed_epochs}
+use Rattle.rb_journal_defs.specs.Journal.{Entry, Client, Applied, Closed, Journal, epoch_of, closed_epochs, changes_of}
 use Rattle.rb_journal_defs.specs.Order.{AddsTo}
 use Rattle.rb_journal_defs.specs.Body.{Shape, changes_in, in_bucket, numbers_below, is_logged, last_source, reflected_in, body_with, body_of, has_something_to_log, completed_epochs, completed_bodies}
 
 -- an entry adds no change to another epoch
-changes_in_other : (site : SiteId) (epoch : ℕ) (entry : Entry) (older : Journal) → (epoch_of entry ≡ epoch → ⊥) → changes_in site epoch (entry ∷ older) ≡ changes_in site epoch older
+pub changes_in_other : (site : SiteId) (epoch : ℕ) (entry : Entry) (older : Journal) → (epoch_of entry ≡ epoch → ⊥) → changes_in site epoch (entry ∷ older) ≡ changes_in site epoch older
 changes_in_other site epoch entry older differs =
     rw (ne_eqb (epoch_of entry) epoch differs) (append-nil (changes_in site epoch older))
 
-last_source_other : (epoch : ℕ) (entry : Entry) (older : Journal) → (epoch_of entry ≡ epoch → ⊥) → last_source epoch (entry ∷ older) ≡ last_source epoch older
+pub last_source_other : (epoch : ℕ) (entry : Entry) (older : Journal) → (epoch_of entry ≡ epoch → ⊥) → last_source epoch (entry ∷ older) ≡ last_source epoch older
 last_source_other epoch (Client own transid changes) older differs = refl
 last_source_other epoch (Applied own source transid accepted refreshes) older differs = rw (ne_eqb own epoch differs) refl
 last_source_other epoch (Closed own) older differs = refl
 
-reflected_other : (site : SiteId) (epoch : ℕ) (entry : Entry) (older : Journal) → (epoch_of entry ≡ epoch → ⊥) → reflected_in site epoch (entry ∷ older) ≡ reflected_in site epoch older
+pub reflected_other : (site : SiteId) (epoch : ℕ) (entry : Entry) (older : Journal) → (epoch_of entry ≡ epoch → ⊥) → reflected_in site epoch (entry ∷ older) ≡ reflected_in site epoch older
 reflected_other A epoch entry older differs = refl
 reflected_other B epoch entry older differs = last_source_other epoch entry older differs
 
 -- the body of these changes and this reflected epoch
-body_made : Shape → ℕ → Option Epoch → List Change → EpochBody
+pub body_made : Shape → ℕ → Option Epoch → List Change → EpochBody
 body_made shape epoch reflected changes =
     body_with shape epoch reflected (filter (is_logged shape.site) (flat_map (λ bucket. in_bucket shape.buckets bucket changes) (numbers_below shape.buckets)))
 
-body_is_made : (shape : Shape) (epoch : ℕ) (journal : Journal) → body_of shape epoch journal ≡ body_made shape epoch (reflected_in shape.site epoch journal) (changes_in shape.site epoch journal)
+pub body_is_made : (shape : Shape) (epoch : ℕ) (journal : Journal) → body_of shape epoch journal ≡ body_made shape epoch (reflected_in shape.site epoch journal) (changes_in shape.site epoch journal)
 unfolding body_of body_made
 body_is_made shape epoch journal = refl
 
-body_same : (shape : Shape) (epoch : ℕ) (new old : Journal) → reflected_in shape.site epoch new ≡ reflected_in shape.site epoch old → changes_in shape.site epoch new ≡ changes_in shape.site epoch old → body_of shape epoch new ≡ body_of shape epoch old
+pub body_same : (shape : Shape) (epoch : ℕ) (new old : Journal) → reflected_in shape.site epoch new ≡ reflected_in shape.site epoch old → changes_in shape.site epoch new ≡ changes_in shape.site epoch old → body_of shape epoch new ≡ body_of shape epoch old
 body_same shape epoch new old reflected changes =
     body_is_made shape epoch new
     ∙ ap (λ (r : Option Epoch). body_made shape epoch r (changes_in shape.site epoch new)) reflected
@@ -55,7 +53,7 @@ pub changes_in_closed : (site : SiteId) (epoch closed : ℕ) (older : Journal) �
 changes_in_closed site epoch closed older = elim (closed == epoch) as (λ b. changes_in site epoch older ++ cond b [] [] ≡ changes_in site epoch older)
     [ true ↦ append-nil (changes_in site epoch older) | false ↦ append-nil (changes_in site epoch older) ]
 
-reflected_closed : (site : SiteId) (epoch closed : ℕ) (older : Journal) → reflected_in site epoch (Closed closed ∷ older) ≡ reflected_in site epoch older
+pub reflected_closed : (site : SiteId) (epoch closed : ℕ) (older : Journal) → reflected_in site epoch (Closed closed ∷ older) ≡ reflected_in site epoch older
 reflected_closed A epoch closed older = refl
 reflected_closed B epoch closed older = refl
 
@@ -65,14 +63,14 @@ body_of_closed shape epoch closed older =
     body_same shape epoch (Closed closed ∷ older) older (reflected_closed shape.site epoch closed older) (changes_in_closed shape.site epoch closed older)
 
 -- those of these epochs' bodies that have something to log
-logged_of : Shape → Journal → List ℕ → List EpochBody
+pub logged_of : Shape → Journal → List ℕ → List EpochBody
 logged_of shape journal epochs = map (λ epoch. body_of shape epoch journal) (filter (λ epoch. has_something_to_log (body_of shape epoch journal)) epochs)
 
 -- this body, if it has something to log
 abbrev pub if_logged : EpochBody → List EpochBody
 if_logged body = if has_something_to_log body then body ∷ [] else []
 
-logged_of_cons : (shape : Shape) (journal : Journal) (epoch : ℕ) (epochs : List ℕ) → logged_of shape journal (epoch ∷ epochs) ≡ if_logged (body_of shape epoch journal) ++ logged_of shape journal epochs
+pub logged_of_cons : (shape : Shape) (journal : Journal) (epoch : ℕ) (epochs : List ℕ) → logged_of shape journal (epoch ∷ epochs) ≡ if_logged (body_of shape epoch journal) ++ logged_of shape journal epochs
 unfolding logged_of
 logged_of_cons shape journal epoch epochs = go (has_something_to_log (body_of shape epoch journal))
   where
@@ -80,7 +78,7 @@ logged_of_cons shape journal epoch epochs = go (has_something_to_log (body_of sh
     go true = refl
     go false = refl
 
-logged_same : (shape : Shape) (new old : Journal) (epochs : List ℕ) → AllByRecursion (λ epoch. body_of shape epoch new ≡ body_of shape epoch old) epochs → logged_of shape new epochs ≡ logged_of shape old epochs
+pub logged_same : (shape : Shape) (new old : Journal) (epochs : List ℕ) → AllByRecursion (λ epoch. body_of shape epoch new ≡ body_of shape epoch old) epochs → logged_of shape new epochs ≡ logged_of shape old epochs
 unfolding logged_of
 logged_same shape new old [] same = refl
 logged_same shape new old (epoch ∷ epochs) same =
@@ -89,22 +87,22 @@ logged_same shape new old (epoch ∷ epochs) same =
     ∙ ap (λ (bs : List EpochBody). if_logged (body_of shape epoch old) ++ bs) (logged_same shape new old epochs same.1)
     ∙ sym (logged_of_cons shape old epoch epochs)
 
-logged_append : (shape : Shape) (journal : Journal) (xs ys : List ℕ) → logged_of shape journal (xs ++ ys) ≡ logged_of shape journal xs ++ logged_of shape journal ys
+pub logged_append : (shape : Shape) (journal : Journal) (xs ys : List ℕ) → logged_of shape journal (xs ++ ys) ≡ logged_of shape journal xs ++ logged_of shape journal ys
 unfolding logged_of
 logged_append shape journal xs ys =
     ap (map (λ epoch. body_of shape epoch journal)) (filter-append (λ epoch. has_something_to_log (body_of shape epoch journal)) xs ys)
     ∙ map-append (λ epoch. body_of shape epoch journal) (filter (λ epoch. has_something_to_log (body_of shape epoch journal)) xs) (filter (λ epoch. has_something_to_log (body_of shape epoch journal)) ys)
 
-completed_is : (shape : Shape) (journal : Journal) → completed_bodies shape journal ≡ logged_of shape journal (closed_epochs journal)
+pub completed_is : (shape : Shape) (journal : Journal) → completed_bodies shape journal ≡ logged_of shape journal (closed_epochs journal)
 unfolding completed_bodies completed_epochs logged_of
 completed_is shape journal = refl
 
-others_below : (shape : Shape) (entry : Entry) (older : Journal) (epochs : List ℕ) → AllByRecursion (λ epoch. epoch < epoch_of entry) epochs → AllByRecursion (λ epoch. body_of shape epoch (entry ∷ older) ≡ body_of shape epoch older) epochs
+pub others_below : (shape : Shape) (entry : Entry) (older : Journal) (epochs : List ℕ) → AllByRecursion (λ epoch. epoch < epoch_of entry) epochs → AllByRecursion (λ epoch. body_of shape epoch (entry ∷ older) ≡ body_of shape epoch older) epochs
 others_below shape entry older [] below = tt
 others_below shape entry older (epoch ∷ epochs) below =
     (body_of_other shape epoch entry older (λ (same : epoch_of entry ≡ epoch). let h : epoch < epoch_of entry = below.0 in absurd (omega arith)), others_below shape entry older epochs below.1)
 
-closed_same : (shape : Shape) (closed : ℕ) (older : Journal) (epochs : List ℕ) → AllByRecursion (λ epoch. body_of shape epoch (Closed closed ∷ older) ≡ body_of shape epoch older) epochs
+pub closed_same : (shape : Shape) (closed : ℕ) (older : Journal) (epochs : List ℕ) → AllByRecursion (λ epoch. body_of shape epoch (Closed closed ∷ older) ≡ body_of shape epoch older) epochs
 closed_same shape closed older [] = tt
 closed_same shape closed older (epoch ∷ epochs) = (body_of_closed shape epoch closed older, closed_same shape closed older epochs)
 
@@ -137,3 +135,11 @@ completed_closed shape closed older =
     ∙ logged_append shape older (closed_epochs older) (closed ∷ [])
     ∙ ap (λ (bs : List EpochBody). logged_of shape older (closed_epochs older) ++ bs) (logged_of_cons shape older closed [] ∙ append-nil (if_logged (body_of shape closed older)))
     ∙ ap (λ (bs : List EpochBody). bs ++ if_logged (body_of shape closed older)) (sym (completed_is shape older))
+
+-- an entry's changes after those of its epoch
+pub entered_changes : (shape : Shape) (o e : ℕ) (entry : Entry) (j : Journal) → AddsTo o entry → cond (o == e) (changes_in shape.site e j ++ changes_of shape.site entry) (changes_in shape.site e j) ≡ changes_in shape.site e (entry ∷ j)
+entered_changes shape o e entry j adds = ap (λ (n : ℕ). cond (n == e) (changes_in shape.site e j ++ changes_of shape.site entry) (changes_in shape.site e j)) (sym (adds_epoch o entry adds)) ∙ go (epoch_of entry == e)
+  where
+    go : (b : Bool) → cond b (changes_in shape.site e j ++ changes_of shape.site entry) (changes_in shape.site e j) ≡ changes_in shape.site e j ++ cond b (changes_of shape.site entry) []
+    go true = refl
+    go false = sym (append-nil (changes_in shape.site e j))

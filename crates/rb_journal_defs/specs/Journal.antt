@@ -1,7 +1,7 @@
 -- The journal of a site, its rows and its closed epochs. As the MySQL manual describes for NDB
 -- Cluster Replication, an epoch holds whole transactions, and the applier writes its progress in
 -- the same transaction as the rows.
-use Rattle.std.specs.Prelude.{ℕ, ◌==◌, ◌&&◌, nat_lt, List, [], ◌∷◌, ◌++◌, filter, fold, Bool, Option, Some, None, unwrap_or}
+use Rattle.std.specs.Prelude.{ℕ, ◌==◌, ◌&&◌, nat_lt, List, [], ◌∷◌, ◌++◌, map, filter, fold, Bool, Option, Some, None, unwrap_or}
 use Rattle.std.specs.List.{last_or}
 use Rattle.rb_base.specs.Site.{server_of, peer_of}
 use Rattle.rb_base.specs.declared.site.SiteId.{SiteId}
@@ -98,3 +98,7 @@ closed_epochs (Closed epoch ∷ older) = closed_epochs older ++ epoch ∷ []
 -- the last closed epoch below this one, or 0
 abbrev pub previous_closed : (epoch : ℕ) → Journal → ℕ
 previous_closed epoch journal = unwrap_or (last_or None (filter (λ closed. nat_lt closed epoch) (closed_epochs journal))) 0
+
+-- the closed epochs of a journal, each with the one closed before it
+abbrev pub closes_of : Journal → List (ℕ × ℕ)
+closes_of journal = map (λ epoch. (epoch, previous_closed epoch journal)) (closed_epochs journal)

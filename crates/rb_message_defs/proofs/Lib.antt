@@ -3,3 +3,4 @@ pub mod Chained
 pub mod Assembly
 pub mod Again
 pub mod Numbers
+pub mod Waiting

@@ -1,24 +1,12 @@
 -- A set of keys as a test.
-use Rattle.std.proofs.Common.{◌≡◌, ◌<◌, ℕ, Bool, true, false, cond, List, [], refl, subst, sym, ap, ◌∙◌, arith}
-use Rattle.std.specs.Prelude.{◌==◌, if◌then◌else◌, nat_lt}
+use Rattle.std.proofs.Common.{◌≡◌, ◌<◌, ℕ, Bool, true, false, List, [], subst, ap, ◌∙◌}
+use Rattle.std.specs.Prelude.{◌==◌, if◌then◌else◌}
 use Rattle.std.specs.Bool.{OnFalse}
 use Rattle.std.specs.List.{list_any}
-use Rattle.std.specs.Ordering.{nat_cmp, is_eq}
-use Rattle.std.specs.declared.cmp.Ordering.TheVariants.{Less, Equal, Greater}
+use Rattle.std.specs.Ordering.{nat_cmp}
 use Rattle.std.specs.BTreeMap.{is_at}
 use Rattle.std.specs.BTreeSet.{BTreeSet, contains, Updates}
-use Rattle.std.proofs.lemmas.Bool.{ltb-true, ne_eqb}
-
-is_equal : (b : Bool) → is_eq (cond b Equal Greater) ≡ b
-is_equal true = refl
-is_equal false = refl
-
-pub at_key : (key other : ℕ) → is_at (nat_cmp key) other ≡ (key == other)
-at_key key other = go (nat_lt key other) refl
-  where
-    go : (b : Bool) → nat_lt key other ≡ b → is_eq (cond b Less (cond (key == other) Equal Greater)) ≡ (key == other)
-    go true below = let less : key < other = ltb-true key other below in sym (ne_eqb key other (λ same. absurd (omega arith)))
-    go false above = is_equal (key == other)
+use Rattle.rb_message_defs.proofs.Waiting.{at_key}
 
 -- a set with one key more
 pub key_added : (old new : BTreeSet ℕ) (key other : ℕ) → Updates nat_cmp old new key true → contains nat_cmp new other ≡ (if key == other then true else contains nat_cmp old other)

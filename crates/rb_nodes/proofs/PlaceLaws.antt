@@ -16,7 +16,7 @@ use Rattle.rb_group.specs.declared.group.Group.{Group}
 use Rattle.rb_nodes.specs.Nodes.{Buffered, share_of, HoldsNodes}
 use Rattle.rb_nodes.specs.declared.nodes.Nodes.{Nodes}
 use Rattle.rb_nodes.proofs.NodeLaws.{IsIn, group_of_bucket, of_all, share_count}
-use Rattle.rb_nodes.proofs.OutboxLaws.{filtered_below}
+use Rattle.rb_message_defs.proofs.Waiting.{filtered_below}
 use Rattle.rb_nodes.proofs.ShareLaws.{at_number}
 
 -- there are the same number of groups as the buckets fill

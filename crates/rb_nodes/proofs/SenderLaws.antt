@@ -1,19 +1,19 @@
 -- Who sends is one of the site's nodes.
-use Rattle.std.proofs.Common.{◌≡◌, ℕ, ◌+◌, ◌*◌, ◌<◌, ◌≤◌, Bool, List, [], ◌∷◌, ◌++◌, length, map, filter, sym, ap, subst, ◌∙◌, arith}
+use Rattle.std.proofs.Common.{◌≡◌, ℕ, ◌+◌, ◌*◌, ◌<◌, ◌≤◌, List, [], ◌∷◌, ◌++◌, length, map, filter, sym, ap, subst, ◌∙◌}
 use Rattle.std.specs.Prelude.{Some}
 use Rattle.std.specs.List.{AllByRecursion, flat_map}
 use Rattle.rb_base.specs.declared.message.Message.{Message}
 use Rattle.rb_base.specs.declared.message.Sent.{Sent}
 use Rattle.rb_journal_defs.specs.Body.{numbers_below}
-use Rattle.rb_message_defs.specs.Nodes.{owner_in, numbers_in, group_of, successor_of, owned_by, sent_from}
+use Rattle.rb_message_defs.specs.Nodes.{numbers_in, group_of, successor_of, owned_by, sent_from}
 use Rattle.rb_message_defs.proofs.Messages.{all_below, all_joined, all_mapped, all_more}
 use Rattle.rb_message_defs.proofs.Again.{all_flat}
 use Rattle.rb_group.specs.Kept as group
 use Rattle.rb_group.specs.Kept.{Kept, numbers_of, done_in, again_in, returns_in, unacknowledged_in}
-use Rattle.rb_nodes.specs.Nodes.{Buffered, needed_by, only_closed, share_of, HoldsNodes, sent_at_close, sent_at_resend, sent_at_takeover}
+use Rattle.rb_nodes.specs.Nodes.{Buffered, needed_by, share_of, HoldsNodes, sent_at_close, sent_at_resend, sent_at_takeover}
 use Rattle.rb_nodes.specs.declared.nodes.Nodes.{Nodes}
 use Rattle.rb_nodes.proofs.NodeLaws.{share_count}
-use Rattle.rb_nodes.proofs.OutboxLaws.{filtered_below}
+use Rattle.rb_message_defs.proofs.Waiting.{filtered_below}
 use Rattle.rb_nodes.proofs.PlaceLaws.{IsOf, numbers_are, numbers_below_all, owner_below, successor_below}
 use Rattle.rb_nodes.proofs.ShareLaws.{owner_share}
 

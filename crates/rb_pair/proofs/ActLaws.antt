@@ -1,5 +1,5 @@
 -- What the steps of an event leave of a site and of its log.
-use Rattle.std.proofs.Common.{◌≡◌, ℕ, ◌+◌, ◌≤◌, Bool, true, false, List, [], ◌∷◌, ◌++◌, length, take, Option, Some, None, refl, sym, ap, subst, ◌∙◌, arith}
+use Rattle.std.proofs.Common.{◌≡◌, ℕ, Bool, true, false, List, [], ◌∷◌, length, Option, Some, None, refl, sym, ap, subst, ◌∙◌, arith}
 use Rattle.std.specs.Prelude.{◌||◌}
 use Rattle.std.specs.List.{slice_get}
 use Rattle.std.specs.Option.{option_map_or}
@@ -21,7 +21,9 @@ use Rattle.rb_play_defs.specs.declared.event.SiteEvent.{SiteEvent}
 use Rattle.rb_play_defs.specs.declared.event.SiteEvent.TheVariants as at_site
 use Rattle.rb_play_defs.proofs.Grows.{Begins, goes_site}
 use Rattle.rb_site.specs.declared.site.Site.{Site}
-use Rattle.rb_site.specs.Site.{IsSite, EventFits, uses_device}
+use Rattle.rb_play_defs.specs.Point.{EventFits, uses_device}
+use Rattle.rb_site.specs.Site.{IsSite}
+use Rattle.rb_site.proofs.SiteLaws.{is_sound}
 use Rattle.rb_pair.specs.declared.action.Action.{Action}
 use Rattle.rb_pair.specs.declared.action.Action.TheVariants as actions
 use Rattle.rb_pair.specs.Action.{steps_of_action, after_log, use_device, ActionFits}
@@ -45,16 +47,16 @@ abbrev pub Cut : Setup → Sites → List (SiteId × SiteEvent) → (limit : ℕ
 Cut setup sites steps limit seen = HoldsUnfinishedLog A limit sites.a.written (written_bodies (shape_of setup A) (after_steps setup sites steps).a) seen
 
 -- an action is at site A if it fits there
-pub one_at : (setup : Setup) (site : Site) (own : SiteId) (event : SiteEvent) (action : Action) (fact : List (SiteId × SiteEvent) → Type 0) → action ≡ actions.One own event → ActionFits setup site action →
-    (EventFits (shape_of setup A) site event → fact ((A, event) ∷ [])) → fact (steps_of_action action)
-one_at setup site own event action fact is fits then' =
-    let (at, own_fits) = subst (ActionFits setup site) is fits in
+pub one_at : (setup : Setup) (sites : Sites) (own : SiteId) (event : SiteEvent) (action : Action) (fact : List (SiteId × SiteEvent) → Type 0) → action ≡ actions.One own event → ActionFits setup sites action →
+    (EventFits (shape_of setup A) sites.a event → fact ((A, event) ∷ [])) → fact (steps_of_action action)
+one_at setup sites own event action fact is fits then' =
+    let (at, own_fits) = subst (ActionFits setup sites) is fits in
     subst (λ (a : Action). fact (steps_of_action a)) (sym is) (subst (λ (s : SiteId). fact ((s, event) ∷ [])) (sym at) (then' own_fits))
 
-pub log_at : (setup : Setup) (site : Site) (own : SiteId) (action : Action) (fact : List (SiteId × SiteEvent) → Type 0) → action ≡ actions.Log own → ActionFits setup site action →
+pub log_at : (setup : Setup) (sites : Sites) (own : SiteId) (action : Action) (fact : List (SiteId × SiteEvent) → Type 0) → action ≡ actions.Log own → ActionFits setup sites action →
     fact ((A, at_site.DeliverAll) ∷ (A, at_site.Inject) ∷ []) → fact (steps_of_action action)
-log_at setup site own action fact is fits there =
-    let at : own ≡ A = subst (ActionFits setup site) is fits in
+log_at setup sites own action fact is fits there =
+    let at : own ≡ A = subst (ActionFits setup sites) is fits in
     subst (λ (a : Action). fact (steps_of_action a)) (sym is) (subst (λ (s : SiteId). fact ((s, at_site.DeliverAll) ∷ (s, at_site.Inject) ∷ [])) (sym at) there)
 
 pub idle_at : (action : Action) (fact : List (SiteId × SiteEvent) → Type 0) → action ≡ actions.Idle → fact [] → fact (steps_of_action action)
@@ -66,7 +68,7 @@ pub stopped_first : (shape : Shape) (limit : ℕ) (run : Progress) (site : Site)
 stopped_first shape limit run site before seen held left =
     let next : Progress = (site_step shape run at_site.DeliverAll).run in
     more_of shape.site limit run.written (written_bodies shape next) (written_bodies shape (site_step shape next at_site.Inject).run) seen
-    (goes_site shape next at_site.Inject (goes_site shape run at_site.DeliverAll held.rest.sound).sound).grows left
+    (goes_site shape next at_site.Inject (goes_site shape run at_site.DeliverAll (is_sound shape site before run held)).sound).grows left
 
 -- a delivery logs nothing
 one_delivered : (shape : Shape) (run : Progress) (place : ℕ) → (deliver_step shape place run).run.written ≡ run.written

@@ -12,7 +12,7 @@ use Rattle.rb_journal_defs.specs.Body.{mapped_table}
 use Rattle.rb_text_defs.specs.Script.{column_bytes}
 use Rattle.rb_text_defs.specs.Legal.{IsLegalTable, IsLegalSite, IsLegalSetup}
 use Rattle.rb_play_defs.specs.Play.{shape_of}
-use Rattle.rb_site.specs.Site.{IsSmallTable, AreDeclared}
+use Rattle.rb_play_defs.specs.Point.{IsSmallTable, AreDeclared}
 
 -- a legal table is a small one in the log
 mapped_small : (n : ℕ) (tables : List Schema) → AllByRecursion IsLegalTable tables → AllByRecursion IsSmallTable (map mapped_table (enumerate_from n tables))

@@ -10,7 +10,8 @@ use Rattle.rb_play_defs.specs.Play.{shape_of, Sites}
 use Rattle.rb_play_defs.specs.declared.event.SiteEvent.{SiteEvent}
 use Rattle.rb_play_defs.specs.declared.event.SiteEvent.TheVariants as at_site
 use Rattle.rb_site.specs.declared.site.Site.{Site}
-use Rattle.rb_site.specs.Site.{IsSite, EventFits, uses_device}
+use Rattle.rb_play_defs.specs.Point.{EventFits, uses_device}
+use Rattle.rb_site.specs.Site.{IsSite}
 use Rattle.rb_pair.specs.declared.action.Action.{Action}
 use Rattle.rb_pair.specs.declared.action.Action.TheVariants as actions
 
@@ -24,16 +25,16 @@ steps_of_action actions.Idle = []
 abbrev pub use_device : List (SiteId × SiteEvent) → Bool
 use_device steps = list_any (λ step. uses_device step.1) steps
 
--- an action at site A, which this site can play
-abbrev pub ActionFits : Setup → Site → Action → Type 0
-ActionFits setup site (actions.One own event) = (own ≡ A) × EventFits (shape_of setup A) site event
-ActionFits setup site (actions.Log own) = own ≡ A
-ActionFits setup site actions.Idle = Unit {0}
+-- an action at site A, which it can play at this point of a run
+abbrev pub ActionFits : Setup → Sites → Action → Type 0
+ActionFits setup sites (actions.One own event) = (own ≡ A) × EventFits (shape_of setup A) sites.a event
+ActionFits setup sites (actions.Log own) = own ≡ A
+ActionFits setup sites actions.Idle = Unit {0}
 
 -- a site that can play an action
 abbrev pub CanAct : Site → (seen : ℕ → List ℕ) → Action → Type 0
 CanAct site seen action =
-    (setup : Setup) × (sites : Sites) × IsSite (shape_of setup A) site seen sites.a × ActionFits setup site action
+    (setup : Setup) × (sites : Sites) × IsSite (shape_of setup A) site seen sites.a × ActionFits setup sites action
 
 -- a site's run after the two steps of a `log`
 abbrev pub after_log : Shape → Progress → Progress

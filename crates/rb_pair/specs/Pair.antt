@@ -1,5 +1,5 @@
 -- What a pair of sites represents.
-use Rattle.std.specs.Prelude.{◌≡◌, ℕ, ◌+◌, ◌*◌, ◌≤◌, ◌<◌, List, length}
+use Rattle.std.specs.Prelude.{◌≡◌, ℕ, ◌+◌, ◌*◌, ◌≤◌, List, length}
 use Rattle.rb_base.specs.declared.site.SiteId.TheVariants.{A, B}
 use Rattle.rb_base.specs.declared.script.Event.{Event}
 use Rattle.rb_base.specs.declared.script.Setup.{Setup}
@@ -33,7 +33,6 @@ pub record IsPair (setup : Setup) (pair : Pair) (seen_a : ℕ → List ℕ) (sit
   pub a : IsSite (shape_of setup A) pair.a seen_a sites.a
   pub limit : limit_of pair.a ≡ setup.a.limit
   pub b : sites.b ≡ progress_at B (beginnings setup)
-  pub transactions : sites.a.drawn ≤ events_of pair
   pub closes : length (closed_epochs sites.a.journal) ≤ events_of pair
   pub changes : own_changes sites.a.journal ≤ changes_of pair
   pub few_events : events_of pair ≤ most_events

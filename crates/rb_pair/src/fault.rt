@@ -1,9 +1,7 @@
 ghost use Rattle.std.specs.Prelude.{◌≡◌};
-ghost use Rattle.rb_pair.specs.Fault.{fault_of_disk};
 ghost use Rattle.rb_pair.specs.declared.fault.PairFault.TheVariants.{NoMemory as OutOfMemory};
 
 use rb_base::{NoMemory, SiteId};
-use rb_disk::DiskLogFault;
 use std::alloc::AllocError;
 
 /// Why a pair did not begin, or ended.
@@ -34,16 +32,5 @@ impl From<AllocError> for PairFault {
 
     fn from(_: AllocError) -> Self {
         PairFault::NoMemory
-    }
-}
-
-impl From<DiskLogFault> for PairFault {
-    ghost from_gives = { λ fault e. e ≡ fault_of_disk fault };
-
-    fn from(fault: DiskLogFault) -> Self {
-        match fault {
-            DiskLogFault::DiskFault => PairFault::DiskFault(SiteId::A),
-            DiskLogFault::NoMemory => PairFault::NoMemory,
-        }
     }
 }

@@ -1,5 +1,5 @@
-//! Two sites over their log devices. [`Pair::step`] plays one event of a script: the events of the
-//! sites that it consists of, in order.
+//! A pair of sites over their log devices. [`Pair::step`] plays one event of a script: the events
+//! of the sites that it consists of, in order.
 //!
 //! A [`Pair`] represents both sites at a point of a run (`IsPair`). Site B has no event yet: it
 //! stays at its start, and its device is only looked at. A fault of a device ends the pair. The

@@ -9,7 +9,7 @@ ghost use Rattle.rb_play_defs.specs.Step.{Progress, site_step, written_bodies};
 ghost use Rattle.rb_play_defs.specs.Play.{shape_of, steps_of_event, joined_outcome, Sites, after_steps, outcomes_of, beginnings};
 ghost use Rattle.rb_play_defs.specs.UnfinishedLog.{HoldsUnfinishedLog};
 ghost use Rattle.rb_disk.specs.Fault.{HasDiskCause};
-ghost use Rattle.rb_site.specs.Site.{IsSite, CanTake, EventFits, limit_of};
+ghost use Rattle.rb_site.specs.Site.{IsSite, limit_of};
 ghost use Rattle.rb_pair.specs.Action.{use_device};
 ghost use Rattle.rb_pair.specs.Fault.{IsNotEmpty, HasPairCause};
 ghost use Rattle.rb_pair.specs.Held.{AreEmpty, IsFirstHeld};
@@ -22,8 +22,9 @@ use rb_base::{Event, Outcome, Setup, SiteId};
 use rb_disk::{DiskLogFault, LogDisk};
 use rb_site::{InjectFault, Site};
 use std::alloc::Global;
+use std::thread::Threads;
 
-/// Two sites, and how many events they have played.
+/// A pair of sites at a point of a run. Only site A is made, since site B has no event yet.
 #[derive(Drop)]
 pub struct Pair {
     a: Site,
@@ -35,10 +36,11 @@ pub struct Pair {
 impl Pair {
     ghost use Rattle.rb_pair.specs.Pair.{IsPair, HasRoom, CanPlay, events_of, changes_of};
 
-    /// Creates both sites of a setup over empty devices. Site A's device then holds a log without
-    /// an epoch; site B's is not written to yet. `NotEmpty` names the first file that is not empty,
-    /// site A before site B and the lowest file first, and leaves both devices unchanged. A fault
-    /// of site A's device, or `NoMemory`, leaves an image of a log without an epoch.
+    /// Creates a pair at the start of a run, over empty devices. Site A's device then holds a log
+    /// without an epoch; site B's is not written to yet. `NotEmpty` names the first file that is
+    /// not empty, site A before site B and the lowest file first, and leaves both devices
+    /// unchanged. A fault of site A's device, or `NoMemory`, leaves an image of a log without an
+    /// epoch.
     pub fn create<D: LogDisk>(
         alloc: Global,
         setup: &Setup,
@@ -81,8 +83,9 @@ impl Pair {
     /// fault, or `NoMemory`, site A's device can be recovered with the epochs that were logged
     /// before, and perhaps some of those that the event would have logged. Site A's device is
     /// unchanged if no step of the event uses it, and site B's is always unchanged.
-    pub fn step<D: LogDisk>(
+    pub fn step<R: Threads + Sync, D: LogDisk>(
         self,
+        rt: &R,
         event: Event,
         disk_a: &mut D,
         _disk_b: &mut D,
@@ -107,7 +110,7 @@ impl Pair {
     {
         let Pair { a, events, changes } = self;
         let own = changes_in(&event);
-        let (a, outcome) = match act(a, action_of(event), disk_a) {
+        let (a, outcome) = match act(rt, a, action_of(event), disk_a) {
             Ok(after) => after,
             Err(DiskLogFault::DiskFault) => return Err(PairFault::DiskFault(SiteId::A)),
             Err(DiskLogFault::NoMemory) => return Err(PairFault::NoMemory),

@@ -12,7 +12,7 @@ use std::test::Fail;
 // From the first epoch, 1 / 0, to 1 / 1 and to 2 / 0.
 #[test]
 fn a_clock_closes_and_draws(rt: HostRuntime) {
-    let mut clock = Clock::new(rt.alloc());
+    let mut clock = Clock::new();
     assert_eq!(rt; (clock.open(), clock.prev()), (Epoch(4294967296), Epoch(0)));
     assert_eq!(rt; clock.close(false), Some(Epoch(4294967296)));
     assert_eq!(rt; clock.open(), Epoch(4294967297));

@@ -1,4 +1,4 @@
-//! Tests of the log on its device and of the parts of a site: each public call once on its happy
+//! Tests of the log on its device and of the parts of a cluster: each public call once on its happy
 //! path, and each generic at a concrete type.
 //!
 //! The tests stand in a crate of their own, since a crate with tests is proved twice. Nothing uses

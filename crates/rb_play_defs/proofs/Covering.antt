@@ -2,9 +2,9 @@
 -- not acknowledged.
 use Rattle.std.proofs.Common.{◌≡◌, ℕ, zero, suc, ◌+◌, ◌*◌, ◌<◌, ◌≤◌, Bool, true, false, cond, List, [], ◌∷◌, ◌++◌, length, map, filter, take, refl, sym, ap, subst, ◌∙◌, inl, inr, arith}
 use Rattle.std.specs.Prelude.{◌⊎◌, ◌==◌, ◌&&◌, nat_le, nat_lt, not, if◌then◌else◌, Option, Some, None, unwrap_or}
-use Rattle.std.specs.List.{AllByRecursion, enumerate_from, find, flat_map, last_or, slice_get}
+use Rattle.std.specs.List.{AllByRecursion, find, flat_map, last_or, slice_get}
 use Rattle.std.specs.Option.{option_map, option_map_or, option_or}
-use Rattle.std.proofs.lemmas.Bool.{and_parts, eq-eqb, eqb-true, eqb-false, le-leb, leb-true, lt-ltb, ltb-true, ltb-false, ne_eqb}
+use Rattle.std.proofs.lemmas.Bool.{and_parts, eq-eqb, le-leb, leb-true, lt-ltb, ltb-true, ltb-false, ne_eqb}
 use Rattle.std.proofs.lemmas.List.Folds.{find-append}
 use Rattle.std.proofs.lemmas.List.{append-nil, map-append, take-append-le}
 use Rattle.rb_base.specs.declared.body.EpochBody.{EpochBody}
@@ -39,6 +39,7 @@ use Rattle.rb_play_defs.proofs.Takes.{prefix_of, sound_taken, sound_all_taken, t
 use Rattle.rb_play_defs.proofs.Fits.{all_filtered}
 use Rattle.rb_play_defs.specs.Play.{HasBuckets}
 use Rattle.rb_play_defs.proofs.Grows.{written_within, goes_site, sound_at_first}
+use Rattle.rb_device_defs.proofs.PrefixLaws.{last_snoc}
 
 -- a fact about 0 and each number of a list holds for the last number, or for 0
 last_in : (P : ℕ → Type 0) (xs : List ℕ) → P 0 → AllByRecursion P xs → P (unwrap_or (last_or None xs) 0)
@@ -276,17 +277,13 @@ written_within_last shape run sound =
     (last_in (λ e. e ≤ run.last) (worth_logging shape run.journal (upto run.last run.journal)) (omega arith)
     (all_filtered (λ e. e ≤ run.last) _ (upto run.last run.journal) (passing (λ e. e ≤ run.last) (λ e. nat_le e run.last) (closed_epochs run.journal) (λ e passes. leb-true e run.last passes))))
 
-last_end : (o : Option ℕ) (xs : List ℕ) (x : ℕ) → last_or o (xs ++ x ∷ []) ≡ Some x
-last_end o [] x = refl
-last_end o (y ∷ xs) x = last_end (Some y) xs x
-
 body_epoch : (shape : Shape) (e : ℕ) (j : Journal) → (body_of shape e j).epoch.0 ≡ e
 unfolding body_of
 body_epoch shape e j = refl
 
 -- the last epoch of a list of bodies with one more
 last_more : (bodies : List EpochBody) (body : EpochBody) → last_epoch (bodies ++ body ∷ []) ≡ body.epoch.0
-last_more bodies body = ap (λ (es : List ℕ). unwrap_or (last_or None es) 0) (map-append (λ (b : EpochBody). b.epoch.0) bodies (body ∷ [])) ∙ ap (λ (o : Option ℕ). unwrap_or o 0) (last_end None (map (λ (b : EpochBody). b.epoch.0) bodies) body.epoch.0)
+last_more bodies body = ap (λ (es : List ℕ). unwrap_or (last_or None es) 0) (map-append (λ (b : EpochBody). b.epoch.0) bodies (body ∷ [])) ∙ ap (λ (o : Option ℕ). unwrap_or o 0) (last_snoc None (map (λ (b : EpochBody). b.epoch.0) bodies) body.epoch.0)
 
 -- taking an epoch leaves the last written epoch unchanged or raises it
 pub written_rises : (shape : Shape) (run : Progress) (e : ℕ) (rest : List ℕ) → IsSound shape run → takeable shape run ≡ e ∷ rest → last_written shape run ≤ last_written shape (with_taken shape run e)

@@ -10,3 +10,9 @@ pub mod Counts
 pub mod Tables
 pub mod Steps
 pub mod Covering
+pub mod Points
+pub mod BodyFits
+pub mod Logging
+pub mod Events
+pub mod Closes
+pub mod Lists

@@ -3,3 +3,4 @@ pub mod Sound
 pub mod Fitting
 pub mod Play
 pub mod UnfinishedLog
+pub mod Point

@@ -1,5 +1,5 @@
 -- What each event does at a site, and its outcome.
-use Rattle.std.specs.Prelude.{ℕ, ◌+◌, ◌*◌, ◌/◌, Bool, true, false, if◌then◌else◌, List, [], ◌∷◌, ◌++◌, length, filter, filter_map, map, fold, count_by, Option, Some, None, unwrap_or}
+use Rattle.std.specs.Prelude.{ℕ, ◌+◌, ◌/◌, Bool, true, false, if◌then◌else◌, List, [], ◌∷◌, ◌++◌, length, filter, filter_map, map, fold, count_by, Option, Some, None, unwrap_or}
 use Rattle.std.specs.List.{flat_map, last_or, slice_get}
 use Rattle.std.specs.Option.{option_map, option_map_or}
 use Rattle.rb_base.specs.declared.row.Row.{Row}

@@ -2,7 +2,8 @@
 //! that are logged, and the report of the run.
 //!
 //! The definitions are in `specs/`, over those of the journal, the messages, the log and the texts;
-//! laws about them are in `proofs/`. The site's step and the top call cite them.
+//! laws about them are in `proofs/`. The steps of cluster, site and pair and the top call cite
+//! them.
 #![tactic(auto)]
 
 mod event;

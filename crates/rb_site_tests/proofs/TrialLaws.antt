@@ -17,10 +17,10 @@ use Rattle.rb_play_defs.specs.Play.{shape_of}
 use Rattle.rb_play_defs.specs.declared.event.SiteEvent.{SiteEvent}
 use Rattle.rb_play_defs.specs.declared.event.SiteEvent.TheVariants.{Tx, Close}
 use Rattle.rb_play_defs.proofs.Counts.{Counted, counted_event}
-use Rattle.rb_site.specs.Site.{AreDeclared, IsSite, EventFits, CanTake}
+use Rattle.rb_play_defs.specs.Point.{AreDeclared, EventFits}
+use Rattle.rb_site.specs.Site.{IsSite, CanTake, Plays}
 use Rattle.rb_site.specs.declared.site.Site.{Site}
 use Rattle.rb_site_tests.specs.Trial.{one_setup}
-use Rattle.rb_site.proofs.StandLaws.{made_is, closed_is, drawn_is}
 
 abbrev pub one_node : Shape
 one_node = shape_of one_setup A
@@ -49,23 +49,18 @@ pub record IsEarly (site : Site) (seen : ℕ → List ℕ) (run : Progress) (cou
   pub held : IsSite one_node site seen run
   pub made : own_changes run.journal ≤ count
   pub closed : length (closed_epochs run.journal) ≤ count
-  pub drawn : run.drawn ≤ count
 
-early_fits : (site : Site) (seen : ℕ → List ℕ) (run : Progress) (count key number : ℕ) → count ≤ 10 → IsEarly site seen run count → EventFits one_node site (insert key number)
-early_fits site seen run count key number few early = record {
-  fit = insert_fits key number;
-  room = omega (arith, made_is one_node site seen run early.held, early.made);
-  number = omega (arith, drawn_is one_node site seen run early.held, early.drawn);
-}
+early_fits : (site : Site) (seen : ℕ → List ℕ) (run : Progress) (count key number : ℕ) → count ≤ 10 → IsEarly site seen run count → EventFits one_node run (insert key number)
+early_fits site seen run count key number few early = record { fit = insert_fits key number; some = omega arith; room = omega (arith, early.made) }
 
 -- it can insert a row
 pub can_insert : (site : Site) (seen : ℕ → List ℕ) (run : Progress) (event : SiteEvent) (count key number : ℕ) → event ≡ insert key number → count ≤ 10 → IsEarly site seen run count → CanTake site seen event
 can_insert site seen run event count key number same few early =
-    (one_node, run, early.held, subst (EventFits one_node site) (sym same) (early_fits site seen run count key number few early))
+    (one_node, run, early.held, subst (EventFits one_node run) (sym same) (early_fits site seen run count key number few early))
 
 -- and close an epoch
-pub close_fits : (site : Site) (seen : ℕ → List ℕ) (run : Progress) (count : ℕ) → count ≤ 10 → IsEarly site seen run count → EventFits one_node site (Close false)
-close_fits site seen run count few early = omega (arith, closed_is one_node site seen run early.held, early.closed)
+pub close_fits : (site : Site) (seen : ℕ → List ℕ) (run : Progress) (count : ℕ) → count ≤ 10 → IsEarly site seen run count → EventFits one_node run (Close false)
+close_fits site seen run count few early = omega (arith, early.closed)
 
 -- the run after an insertion
 abbrev pub after_insert : (key number : ℕ) → Progress → Progress
@@ -76,20 +71,14 @@ begins site seen setup same held = record {
   held = subst (λ (s : Setup). IsSite (shape_of s A) site seen (beginning s.a.groups s.a.replicas)) same held;
   made = omega arith;
   closed = omega arith;
-  drawn = omega arith;
 }
 
--- the promise of a step
-abbrev pub Steps : (old new : Site) (seen after : ℕ → List ℕ) (event : SiteEvent) → Outcome → Type 0
-Steps old new seen after event outcome =
-    (shape : Shape) (run : Progress) → IsSite shape old seen run → EventFits shape old event → IsSite shape new after (site_step shape run event).run × (outcome ≡ (site_step shape run event).outcome)
-
-pub inserted : (old new : Site) (seen after : ℕ → List ℕ) (run : Progress) (event : SiteEvent) (outcome : Outcome) (count key number : ℕ) → event ≡ insert key number → count ≤ 10 → IsEarly old seen run count → Steps old new seen after event outcome → IsEarly new after (after_insert key number run) (count + 1)
+-- what an insertion leaves of it
+pub inserted : (old new : Site) (seen after : ℕ → List ℕ) (run : Progress) (event : SiteEvent) (outcome : Outcome) (count key number : ℕ) → event ≡ insert key number → count ≤ 10 → IsEarly old seen run count → ((shape : Shape) (run : Progress) → Plays shape run event old seen new after outcome) → IsEarly new after (after_insert key number run) (count + 1)
 inserted old new seen after run event outcome count key number same few early step =
     let counts : Counted A run (after_insert key number run) 1 0 1 = counted_event one_node run (insert key number) in record {
       held = subst (λ (e : SiteEvent). IsSite one_node new after (site_step one_node run e).run) same
-          (step one_node run early.held (subst (EventFits one_node old) (sym same) (early_fits old seen run count key number few early))).0;
+          (step one_node run early.held (subst (EventFits one_node run) (sym same) (early_fits old seen run count key number few early))).0;
       made = omega (arith, early.made, counts.own);
       closed = omega (arith, early.closed, counts.closed);
-      drawn = omega (arith, early.drawn, counts.drawn);
     }

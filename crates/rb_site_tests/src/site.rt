@@ -2,10 +2,11 @@ ghost use Rattle.std.specs.Prelude.{◌≡◌, ◌≤◌, ◌<◌, ℕ, [], ◌�
 ghost use Rattle.rb_base.specs.declared.row.Value.TheVariants as values;
 ghost use Rattle.rb_base.specs.declared.script.Op.TheVariants.{Ins};
 ghost use Rattle.rb_journal_defs.specs.Body.{Shape};
-ghost use Rattle.rb_play_defs.specs.Step.{Progress, site_step};
+ghost use Rattle.rb_play_defs.specs.Step.{Progress};
 ghost use Rattle.rb_play_defs.specs.declared.event.SiteEvent.TheVariants.{Tx};
 ghost use Rattle.rb_site_tests.specs.Trial.{one_setup};
-ghost use Rattle.rb_site.specs.Site.{IsSite, EventFits, CanTake, groups_of};
+ghost use Rattle.rb_play_defs.specs.Point.{EventFits};
+ghost use Rattle.rb_site.specs.Site.{IsSite, CanTake, Plays, groups_of};
 
 use rb_base::{
     Bytes, ClientOp, ClientOps, Column, Columns, Epoch, IndexRow, Items, Mode, NoMemory, Op,
@@ -17,6 +18,7 @@ use rb_site::{InjectFault, Site, SiteEvent, Stepped, StoppedSite};
 use rb_store::Tables;
 use std::alloc::Global;
 use std::test::Fail;
+use std::thread::Threads;
 
 type Outcomes = Items<Outcome>;
 
@@ -78,19 +80,18 @@ fn insert(alloc: Global, key: u64, number: u64) -> Result<SiteEvent, NoMemory>
 }
 
 // Plays one event. Returns the site and the outcome if the event ended.
-fn one_event<D: LogDisk>(
+fn one_event<R: Threads + Sync, D: LogDisk>(
+    rt: &R,
     site: Site,
     event: SiteEvent,
     disk: &mut D,
 ) -> Result<(Site, Outcome), InjectFault>
     requires fits { CanTake site (D.seen disk.old) event }
     ensures stepped { IfOk result (λ pair. (shape : Shape) (run : Progress) →
-        IsSite shape site (D.seen disk.old) run → EventFits shape site event →
-        IsSite shape pair.0 (D.seen disk.new) (site_step shape run event).run
-        × (pair.1 ≡ (site_step shape run event).outcome)) }
+        Plays shape run event site (D.seen disk.old) pair.0 (D.seen disk.new) pair.1) }
     ensures groups { IfOk result (λ pair. groups_of pair.0 ≡ groups_of site) }
 {
-    match site.step(event, disk) {
+    match site.step(rt, event, disk) {
         Stepped::On(site, outcome) => Ok((site, outcome)),
         Stepped::Stopped(_) => Err(InjectFault::DiskFault),
         Stepped::NoMemory => Err(InjectFault::NoMemory),
@@ -98,16 +99,20 @@ fn one_event<D: LogDisk>(
 }
 
 // Returns a site of one node and its outcomes: two rows are inserted, and their epoch closes.
-fn two_rows<D: LogDisk>(alloc: Global, disk: &mut D) -> Result<(Site, Outcomes), InjectFault>
+fn two_rows<R: Threads + Sync, D: LogDisk>(
+    rt: &R,
+    alloc: Global,
+    disk: &mut D,
+) -> Result<(Site, Outcomes), InjectFault>
     ensures there { IfOk result (λ pair. (shape : Shape) × (run : Progress)
         × IsSite shape pair.0 (D.seen disk.new) run) }
     ensures groups { IfOk result (λ pair. groups_of pair.0 ≡ 1) }
 {
     let setup = one_setup(alloc)?;
     let site = Site::create(alloc, SiteId::A, &setup, disk)?;
-    let (site, first) = one_event(site, insert(alloc, 5, 7)?, disk)?;
-    let (site, second) = one_event(site, insert(alloc, 6, 8)?, disk)?;
-    let (site, closed) = one_event(site, SiteEvent::Close(false), disk)?;
+    let (site, first) = one_event(rt, site, insert(alloc, 5, 7)?, disk)?;
+    let (site, second) = one_event(rt, site, insert(alloc, 6, 8)?, disk)?;
+    let (site, closed) = one_event(rt, site, SiteEvent::Close(false), disk)?;
     let mut outcomes = Outcomes::new(alloc);
     outcomes.push(first)?;
     outcomes.push(second)?;
@@ -116,39 +121,41 @@ fn two_rows<D: LogDisk>(alloc: Global, disk: &mut D) -> Result<(Site, Outcomes),
 }
 
 // Plays one more event, which needs nothing of the site.
-fn go_on<D: LogDisk>(
+fn go_on<R: Threads + Sync, D: LogDisk>(
+    rt: &R,
     site: Site,
     event: SiteEvent,
     outcomes: &mut Outcomes,
     disk: &mut D,
 ) -> Result<Site, InjectFault>
     requires there { (shape : Shape) × (run : Progress) × IsSite shape site (D.seen disk.old) run }
-    requires needs { (shape : Shape) → EventFits shape site event }
+    requires needs { (shape : Shape) (run : Progress) → EventFits shape run event }
     ensures there { IfOk result (λ after. (shape : Shape) × (run : Progress)
         × IsSite shape after (D.seen disk.new) run) }
     ensures groups { IfOk result (λ after. groups_of after ≡ groups_of site) }
 {
-    let (after, outcome) = one_event(site, event, disk)?;
+    let (after, outcome) = one_event(rt, site, event, disk)?;
     outcomes.push(outcome)?;
     Ok(after)
 }
 
 // Delivers the messages in the wrong order, one of them twice, and one that was not sent; then
 // injects.
-fn message_by_message<D: LogDisk>(
+fn message_by_message<R: Threads + Sync, D: LogDisk>(
+    rt: &R,
     alloc: Global,
     disk: &mut D,
 ) -> Result<(Site, Outcomes), InjectFault>
     ensures groups { IfOk result (λ pair. groups_of pair.0 ≡ 1) }
 {
-    let (site, mut outcomes) = two_rows(alloc, disk)?;
-    let site = go_on(site, SiteEvent::Deliver(2), &mut outcomes, disk)?;
-    let site = go_on(site, SiteEvent::Deliver(1), &mut outcomes, disk)?;
-    let site = go_on(site, SiteEvent::Deliver(0), &mut outcomes, disk)?;
-    let site = go_on(site, SiteEvent::Deliver(0), &mut outcomes, disk)?;
-    let site = go_on(site, SiteEvent::Deliver(3), &mut outcomes, disk)?;
-    let site = go_on(site, SiteEvent::Inject, &mut outcomes, disk)?;
-    let site = go_on(site, SiteEvent::Deliver(0), &mut outcomes, disk)?;
+    let (site, mut outcomes) = two_rows(rt, alloc, disk)?;
+    let site = go_on(rt, site, SiteEvent::Deliver(2), &mut outcomes, disk)?;
+    let site = go_on(rt, site, SiteEvent::Deliver(1), &mut outcomes, disk)?;
+    let site = go_on(rt, site, SiteEvent::Deliver(0), &mut outcomes, disk)?;
+    let site = go_on(rt, site, SiteEvent::Deliver(0), &mut outcomes, disk)?;
+    let site = go_on(rt, site, SiteEvent::Deliver(3), &mut outcomes, disk)?;
+    let site = go_on(rt, site, SiteEvent::Inject, &mut outcomes, disk)?;
+    let site = go_on(rt, site, SiteEvent::Deliver(0), &mut outcomes, disk)?;
     Ok((site, outcomes))
 }
 
@@ -174,7 +181,7 @@ fn epoch_at(tables: &Tables, key: u64) -> Option<Epoch> {
 fn the_readers_show_the_site(rt: HostRuntime) -> Result<(), Fail> {
     let alloc = rt.alloc();
     let mut disk = MemoryDisk::new(alloc);
-    let (site, _outcomes) = message_by_message(alloc, &mut disk)?;
+    let (site, _outcomes) = message_by_message(&rt, alloc, &mut disk)?;
     assert_eq!(rt; site.group(0).needed(), Epoch(4294967297));
     assert_eq!(rt; site.event_buffer().last(), Epoch(4294967296));
     assert_eq!(rt;
@@ -218,8 +225,8 @@ fn the_readers_show_the_site(rt: HostRuntime) -> Result<(), Fail> {
 fn a_log_begins_on_an_empty_device_alone(rt: HostRuntime) -> Result<(), Fail> {
     let alloc = rt.alloc();
     let mut disk = MemoryDisk::new(alloc);
-    let (_site, _outcomes) = two_rows(alloc, &mut disk)?;
-    let again = two_rows(alloc, &mut disk);
+    let (_site, _outcomes) = two_rows(&rt, alloc, &mut disk)?;
+    let again = two_rows(&rt, alloc, &mut disk);
     assert!(rt; matches!(again, Err(InjectFault::NotEmpty { file: 0, length: 1 })));
     assert_eq!(rt; (disk.file(0).len(), disk.file(1).len()), (1, 115));
     Ok(())

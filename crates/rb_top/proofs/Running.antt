@@ -27,7 +27,9 @@ use Rattle.rb_device_defs.specs.Image.{HoldsLog, IsLogImage}
 use Rattle.rb_device_defs.proofs.ImageLaws.{whole_is_image}
 use Rattle.rb_site.specs.declared.site.Site.{Site}
 use Rattle.rb_site.specs.Site.{IsSite, limit_of}
-use Rattle.rb_site.proofs.BeginLaws.{err_same}
+use Rattle.rb_site.proofs.SiteLaws.{is_primary}
+use Rattle.rb_pair.proofs.PairLaws.{is_sound, holds_log}
+use Rattle.rb_cluster.proofs.Results.{err_same}
 use Rattle.rb_pair.proofs.ActLaws.{more_of}
 use Rattle.rb_pair.proofs.HeldLaws.{none_first}
 use Rattle.rb_pair.specs.Fault.{IsNotEmpty, HasPairCause}
@@ -156,23 +158,19 @@ stopped_in script pair before seen done lined rest is held left =
     let least = (play_of script.setup done).sites.a.written in
     any_count script.setup.a.limit least (log_of script) seen
     (more_of A script.setup.a.limit least (written_bodies (shape_of script.setup A) next.a) (log_of script) seen
-    (begins_whole script (played_on script.setup (play_of script.setup done) lined) (done ++ lined ∷ []) rest is (play_more script.setup done lined) (goes_steps script.setup A (steps_of_event lined.event) (play_of script.setup done).sites held.stands.a.rest.sound).sound) left)
-
--- the log that a pair represents
-pub log_held : (setup : Setup) (pair : Pair) (seen : ℕ → List ℕ) (lined : List LinedEvent) → IsPair setup pair seen (play_of setup lined).sites → HoldsLog A setup.a.limit (written_bodies (shape_of setup A) (play_of setup lined).sites.a) seen
-log_held setup pair seen lined held = subst (λ (limit : ℕ). HoldsLog A limit (written_bodies (shape_of setup A) (play_of setup lined).sites.a) seen) held.limit held.a.log.held
+    (begins_whole script (played_on script.setup (play_of script.setup done) lined) (done ++ lined ∷ []) rest is (play_more script.setup done lined) (goes_steps script.setup A (steps_of_event lined.event) (play_of script.setup done).sites (is_sound script.setup pair before (play_of script.setup done).sites held.stands)).sound) left)
 
 -- a run that stopped after some of its events
 pub stopped_after : (script : Script) (pair : Pair) (seen : ℕ → List ℕ) (done rest : List LinedEvent) → script.events ≡ done ++ rest → IsPair script.setup pair seen (play_of script.setup done).sites → HoldsUnfinishedLog A script.setup.a.limit 0 (log_of script) seen
 stopped_after script pair seen done rest is held =
-    whole_part script.setup.a.limit (written_bodies (shape_of script.setup A) (play_of script.setup done).sites.a) (log_of script) seen (begins_whole script (play_of script.setup done) done rest is refl held.a.rest.sound) (log_held script.setup pair seen done held)
+    whole_part script.setup.a.limit (written_bodies (shape_of script.setup A) (play_of script.setup done).sites.a) (log_of script) seen (begins_whole script (play_of script.setup done) done rest is refl (is_sound script.setup pair seen (play_of script.setup done).sites held)) (holds_log script.setup pair seen (play_of script.setup done).sites held)
 
 -- the whole of a run
 pub whole_after : (script : Script) (pair : Pair) (seen : ℕ → List ℕ) → IsPair script.setup pair seen (play script).sites → HoldsUnfinishedLog A script.setup.a.limit 0 (log_of script) seen
 whole_after script pair seen held = stopped_after script pair seen script.events [] (sym (append-nil script.events)) held
 
 pub one_log : (script : Script) (pair : Pair) (seen : ℕ → List ℕ) → IsPair script.setup pair seen (play script).sites → HoldsLogOf script seen
-one_log script pair seen held = log_held script.setup pair seen script.events held
+one_log script pair seen held = holds_log script.setup pair seen (play script).sites held
 
 pub whole_log : (script : Script) (seen : ℕ → List ℕ) → HoldsLogOf script seen → HoldsUnfinishedLog A script.setup.a.limit 0 (log_of script) seen
 whole_log script seen log = whole_part script.setup.a.limit (log_of script) (log_of script) seen (begins_self (log_of script)) log
@@ -209,8 +207,8 @@ log_put shape site seen run files rows old new text held put lines files_are row
     let bodies = written_bodies shape run in
     put ∙ ap (λ (t : List ℕ). old ++ t)
     (lines ∙ ap₂ (λ (n : ℕ) (r : List IndexRow). text_of_lines (log_lines A (record { files = n; rows = r })))
-    (files_are ∙ ap (λ (id : SiteId). length (binlog_files id (limit_of site) bodies)) held.rest.declared.primary)
-    (rows_are ∙ ap (λ (id : SiteId). index_rows id (limit_of site) bodies) held.rest.declared.primary))
+    (files_are ∙ ap (λ (id : SiteId). length (binlog_files id (limit_of site) bodies)) (is_primary shape site seen run held))
+    (rows_are ∙ ap (λ (id : SiteId). index_rows id (limit_of site) bodies) (is_primary shape site seen run held)))
 
 -- two sites whose devices are empty begin
 held_is : {T : Type 0} (result : Result T PairFault) → IsNotEmpty result → (site : SiteId) × (file : ℕ) × (size : ℕ) × (result ≡ Err (faults.NotEmpty site file size))

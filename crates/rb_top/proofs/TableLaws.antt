@@ -12,7 +12,7 @@ use Rattle.rb_journal_defs.specs.Table.{IsTable, rows_of_table}
 use Rattle.rb_text_defs.specs.Report.{NamedRows, table_lines, text_of_lines}
 use Rattle.rb_play_defs.specs.Play.{tables_left}
 use Rattle.rb_play_defs.proofs.Tables.{table_is}
-use Rattle.rb_site.proofs.MapLaws.{numbered_more}
+use Rattle.rb_journal_defs.proofs.Mapped.{numbered_more}
 use Rattle.rb_store.specs.declared.tables.Tables.{Tables}
 use Rattle.rb_store.specs.Table.{row_of}
 use Rattle.rb_store.specs.Tables.{rows_in, held_at}

@@ -15,10 +15,12 @@ use rb_pair::{Pair, PairFault};
 use rb_print::print_outcome;
 use rb_script::LinedEvents;
 use std::alloc::Global;
+use std::thread::Threads;
 
 /// Plays a script's events in order at two new sites whose devices are empty, and appends one line
 /// of the report for each.
-pub(crate) fn play<D: LogDisk>(
+pub(crate) fn play<R: Threads + Sync, D: LogDisk>(
+    rt: &R,
     alloc: Global,
     setup: &Setup,
     events: LinedEvents,
@@ -41,7 +43,7 @@ pub(crate) fn play<D: LogDisk>(
 {
     let mut pair = Pair::create(alloc, setup, disk_a, disk_b)?;
     for lined in events.into_vec() {
-        let (after, outcome) = pair.step(lined.event, disk_a, disk_b)?;
+        let (after, outcome) = pair.step(rt, lined.event, disk_a, disk_b)?;
         pair = after;
         put_answer(alloc, text, lined.line, outcome)?;
     }

@@ -29,7 +29,7 @@ use std::thread::Threads;
 /// The one word `read` reads a log from the source and writes its text to the sink. It changes no
 /// device.
 pub fn top<R: Threads + Sync, I: Source, O: Sink, D: LogDisk>(
-    _rt: &R,
+    rt: &R,
     alloc: Global,
     words: &[Bytes],
     script: &mut I,
@@ -136,7 +136,7 @@ pub fn top<R: Threads + Sync, I: Source, O: Sink, D: LogDisk>(
         if let Some(HeldFile { site, file, length }) = first_held(disk_a, disk_b) {
             return Status::NotEmpty { site, file, length };
         }
-        return run_script(alloc, script, out, disk_a, disk_b);
+        return run_script(rt, alloc, script, out, disk_a, disk_b);
     }
     if are_read_words(words) {
         return print_log(alloc, script, out);
@@ -145,7 +145,8 @@ pub fn top<R: Threads + Sync, I: Source, O: Sink, D: LogDisk>(
 }
 
 // The word `run`.
-fn run_script<I: Source, O: Sink, D: LogDisk>(
+fn run_script<R: Threads + Sync, I: Source, O: Sink, D: LogDisk>(
+    rt: &R,
     alloc: Global,
     script: &mut I,
     out: &mut O,
@@ -209,7 +210,7 @@ fn run_script<I: Source, O: Sink, D: LogDisk>(
         Err(ParseFault::Bad { line, kind }) => return Status::BadScript { line, kind },
         Err(ParseFault::NoMemory) => return Status::NoMemory,
     };
-    let report = match run(alloc, parsed, disk_a, disk_b) {
+    let report = match run(rt, alloc, parsed, disk_a, disk_b) {
         Ok(report) => report,
         Err(PairFault::DiskFault(site)) => return Status::DiskFault { site },
         Err(PairFault::NoMemory) => return Status::NoMemory,

@@ -22,9 +22,11 @@ use rb_script::Script;
 use rb_site::Site;
 use rb_store::Tables;
 use std::alloc::Global;
+use std::thread::Threads;
 
 /// Runs a script and returns its report.
-pub(crate) fn run<D: LogDisk>(
+pub(crate) fn run<R: Threads + Sync, D: LogDisk>(
+    rt: &R,
     alloc: Global,
     script: Script,
     disk_a: &mut D,
@@ -42,7 +44,7 @@ pub(crate) fn run<D: LogDisk>(
 {
     let Script { setup, events } = script;
     let mut text = Vec::from_slice(alloc, b"ndb replication report\n")?;
-    let pair = play(alloc, &setup, events, &mut text, disk_a, disk_b)?;
+    let pair = play(rt, alloc, &setup, events, &mut text, disk_a, disk_b)?;
     let site = pair.site_a();
     put_log(alloc, &mut text, site)?;
     put_tables(alloc, &mut text, setup.tables.as_slice(), site.tables())?;

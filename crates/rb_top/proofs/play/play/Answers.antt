@@ -4,8 +4,8 @@ use Rattle.std.proofs.lemmas.List.{nil_from_length}
 use Rattle.std.proofs.lemmas.Result.{err_from_is_err_and}
 use Rattle.rb_text_defs.specs.declared.script.Script.{Script}
 use Rattle.rb_text_defs.specs.declared.script.LinedEvent.{LinedEvent}
-use Rattle.rb_site.proofs.BeginLaws.{on_err}
-use Rattle.rb_site.proofs.InjectLaws.{err_anyway}
+use Rattle.rb_base.proofs.Results.{at_an_error}
+use Rattle.rb_cluster.proofs.Results.{err_anyway}
 use Rattle.rb_play_defs.specs.Play.{play_of}
 use Rattle.rb_top.proofs.Running.{part_of_any, played_whole, room_for, starts, stopped_in, stopped_after, played_more, text_more, printed_nothing, whole_more, begins_when_empty, cause_later}
 use Rattle.rb_top.proofs.play.play.Goals as goal
@@ -15,7 +15,7 @@ create-requires g c = record { legal = c.requires.legal.setup }
 
 pub returns-in_err-pair-clause-stopped : goal.returns-in_err-pair-clause-stopped
 returns-in_err-pair-clause-stopped g c =
-    on_err c.from_residual.result (part_of_any _ _ _ (c.in_err-pair.ensures.stopped c.requires.empty))
+    at_an_error c.from_residual.result (part_of_any _ _ _ (c.in_err-pair.ensures.stopped c.requires.empty))
 
 pub returns-in_err-pair-clause-never_not_empty : goal.returns-in_err-pair-clause-never_not_empty
 returns-in_err-pair-clause-never_not_empty g c =
@@ -38,13 +38,13 @@ loop-lined-init g c =
       later = omega arith;
     }
 
-pub step-requires : goal.step-requires
-step-requires g c =
+pub step-requires-clause-room : goal.step-requires-clause-room
+step-requires-clause-room g c = λ κs within.
     let setup = c.args.setup.now in
     let script : Script = record { setup = setup; events = c.args.events } in
     let before = c.loop-lined.invariant in
     let whole = before.whole ∙ ap (λ (events : List LinedEvent). c.loop-lined.yielded ++ events) c.in-Some.ensures.steps.0 in
-    record { room = (setup, (play_of setup c.loop-lined.yielded).sites, before.stands.stands, room_for script c.loop-lined.pair _ c.loop-lined.yielded c.in-Some.lined c.next.new.self.rest.items c.requires.legal whole before.stands) }
+    (setup, (play_of setup c.loop-lined.yielded).sites, before.stands.stands, room_for script c.loop-lined.pair _ c.loop-lined.yielded c.in-Some.lined c.next.new.self.rest.items c.requires.legal whole before.stands)
 
 pub returns-in_err-after-clause-stopped : goal.returns-in_err-after-clause-stopped
 returns-in_err-after-clause-stopped g c =
@@ -52,7 +52,7 @@ returns-in_err-after-clause-stopped g c =
     let script : Script = record { setup = setup; events = c.args.events } in
     let before = c.loop-lined.invariant in
     let room = room_for script c.loop-lined.pair _ c.loop-lined.yielded c.in-Some.lined c.next.new.self.rest.items c.requires.legal (before.whole ∙ ap (λ (events : List LinedEvent). c.loop-lined.yielded ++ events) c.in-Some.ensures.steps.0) before.stands in
-    on_err c.from_residual-in_err-after.result (stopped_in script c.loop-lined.pair _ _ c.loop-lined.yielded c.in-Some.lined c.next.new.self.rest.items
+    at_an_error c.from_residual-in_err-after.result (stopped_in script c.loop-lined.pair _ _ c.loop-lined.yielded c.in-Some.lined c.next.new.self.rest.items
     (whole_more c.args.events c.loop-lined.yielded _ _ c.in-Some.lined before.whole c.in-Some.ensures.steps.0) before.stands
     (c.in_err-after.ensures.stopped setup (play_of setup c.loop-lined.yielded).sites before.stands.stands room))
 

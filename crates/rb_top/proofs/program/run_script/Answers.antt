@@ -47,7 +47,7 @@ pub returns-clause-a_bad_script_is_refused : goal.returns-clause-a_bad_script_is
 returns-clause-a_bad_script_is_refused g c = λ bytes bad left is. inr (inr refl)
 
 pub run-requires-clause-legal : goal.run-requires-clause-legal
-run-requires-clause-legal g c = legal_script _ c.in-Ok-parse.parsed c.in-Ok-parse.ensures.ok
+run-requires-clause-legal g c = λ κs within. legal_script _ c.in-Ok-parse.parsed c.in-Ok-parse.ensures.ok
 
 pub returns-in-Err-NoMemory-run-clause-no_memory_leaves_an_unfinished_log : goal.returns-in-Err-NoMemory-run-clause-no_memory_leaves_an_unfinished_log
 returns-in-Err-NoMemory-run-clause-no_memory_leaves_an_unfinished_log g c = λ _.

@@ -3,14 +3,15 @@ use Rattle.rb_base.specs.declared.site.SiteId.TheVariants.{A}
 use Rattle.rb_base.specs.declared.schema.Schema.{Schema}
 use Rattle.rb_text_defs.specs.Report.{log_lines, text_of_lines}
 use Rattle.rb_play_defs.specs.Play.{shape_of, play, log_of, log_rows, tables_left}
-use Rattle.rb_site.proofs.BeginLaws.{on_err, empty_is_image}
-use Rattle.rb_site.proofs.InjectLaws.{err_anyway}
+use Rattle.rb_base.proofs.Results.{at_an_error}
+use Rattle.rb_cluster.proofs.BeginLaws.{empty_is_image}
+use Rattle.rb_cluster.proofs.Results.{err_anyway}
 use Rattle.rb_top.proofs.Running.{one_log, part_of_any, report_is, whole_after}
 use Rattle.rb_top.proofs.TableLaws.{text_of_tables, rows_left}
 use Rattle.rb_top.proofs.run.run.Goals as goal
 
 pub returns-in_err-text-clause-err : goal.returns-in_err-text-clause-err
-returns-in_err-text-clause-err g c = on_err c.from_residual.result (part_of_any _ _ _ (empty_is_image A c.args.script.setup.a.limit _ c.requires.empty.0))
+returns-in_err-text-clause-err g c = at_an_error c.from_residual.result (part_of_any _ _ _ (empty_is_image A c.args.script.setup.a.limit _ c.requires.empty.0))
 
 pub returns-in_err-put_log-clause-err : goal.returns-in_err-put_log-clause-err
 returns-in_err-put_log-clause-err g c = err_anyway c.from_residual-in_err-put_log.result _ (λ fault. whole_after c.args.script c.in_ok-pair.pair _ c.in_ok-pair.ensures.played)

@@ -3,8 +3,8 @@ use Rattle.rb_pair.specs.Action.{steps_of_action, use_device}
 use Rattle.rb_pair.proofs.PairLaws.{can_act, action_fits, pair_after, outcome_is, stopped_in}
 use Rattle.rb_pair.proofs.pair.Pair.step.Goals as goal
 
-pub act-requires : goal.act-requires
-act-requires g c = record { room = can_act c.args.self (g.D.LogDisk.seen c.args.disk_a.now) c.args.event c.action_of.result c.requires.room c.action_of.ensures }
+pub act-requires-clause-room : goal.act-requires-clause-room
+act-requires-clause-room g c = λ κs within. can_act c.args.self (g.D.LogDisk.seen c.args.disk_a.now) c.args.event c.action_of.result c.requires.room c.action_of.ensures
 
 pub returns-in-Err-DiskFault-clause-stopped : goal.returns-in-Err-DiskFault-clause-stopped
 returns-in-Err-DiskFault-clause-stopped g c = λ setup sites held room.
