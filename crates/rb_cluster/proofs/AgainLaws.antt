@@ -26,8 +26,9 @@ use Rattle.rb_nodes.proofs.NodeLaws.{of_its_group}
 use Rattle.rb_nodes.proofs.ShareLaws.{owner_share, covers_share}
 use Rattle.rb_nodes.proofs.SenderLaws.{numbers_share}
 use Rattle.rb_cluster.proofs.ShareLaws.{needed_share, unacknowledged_share}
-use Rattle.rb_nodes.proofs.MemberLaws.{numbers_split}
-use Rattle.rb_nodes.proofs.PlaceLaws.{IsOf, numbers_are, owned_is_of}
+use Rattle.rb_message_defs.proofs.Ranges.{numbers_split}
+use Rattle.rb_message_defs.proofs.Groups.{IsOf, numbers_are}
+use Rattle.rb_nodes.proofs.PlaceLaws.{owned_is_of}
 use Rattle.rb_play_defs.proofs.Lists.{map_alike, flat_alike, filter_alike, all_passing}
 
 -- a bucket of a group is among the group's numbers

@@ -21,7 +21,7 @@ use Rattle.rb_cluster.proofs.ShareLaws.{unacknowledged_share}
 use Rattle.rb_cluster.proofs.PointLaws.{cover_at_nodes}
 use Rattle.rb_nodes.proofs.NodeLaws.{of_its_group, share_count}
 use Rattle.rb_nodes.proofs.MemberLaws.{in_group, owner_in_group}
-use Rattle.rb_nodes.proofs.PlaceLaws.{group_is}
+use Rattle.rb_message_defs.proofs.Groups.{group_is}
 
 -- what stands at a place
 item_there : {X : Type 0} (xs : List X) (k : ℕ) → k < length xs → (x : X) × (slice_get xs k ≡ Some x)

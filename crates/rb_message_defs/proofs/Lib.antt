@@ -3,4 +3,10 @@ pub mod Chained
 pub mod Assembly
 pub mod Again
 pub mod Numbers
+pub mod Places
+pub mod Ranges
+pub mod Groups
+pub mod Members
+pub mod Parts
+pub mod Keys
 pub mod Waiting

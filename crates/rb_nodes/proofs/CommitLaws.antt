@@ -1,14 +1,14 @@
 -- What the groups keep after the commit of one change.
-use Rattle.std.proofs.Common.{◌≡◌, ℕ, Bool, true, false, cond, List, [], ◌∷◌, ◌++◌, refl, sym, ap, ◌∙◌}
+use Rattle.std.proofs.Common.{◌≡◌, ℕ, Bool, true, false, cond, [], ◌∷◌, ◌++◌, refl, sym, ap, ◌∙◌}
 use Rattle.std.specs.Prelude.{◌==◌, ◌&&◌, if◌then◌else◌}
 use Rattle.std.specs.List.{list_any}
 use Rattle.std.proofs.lemmas.Bool.{eqb-true}
 use Rattle.std.proofs.lemmas.List.{append-nil}
-use Rattle.std.proofs.lemmas.List.Elements.{filter-append}
 use Rattle.rb_base.specs.Bucket.{bucket_number}
 use Rattle.rb_base.specs.declared.change.Change.{Change}
 use Rattle.rb_journal_defs.specs.Body.{in_bucket}
 use Rattle.rb_message_defs.specs.Nodes.{numbers_in}
+use Rattle.rb_message_defs.proofs.Parts.{in_bucket_more}
 use Rattle.rb_group.specs.Kept.{with_part}
 use Rattle.rb_group.specs.Group.{Keeps}
 use Rattle.rb_group.specs.declared.group.Group.{Group}
@@ -18,10 +18,6 @@ use Rattle.rb_nodes.proofs.ShareLaws.{keeps_same}
 -- a bucket is one of a group's
 abbrev pub is_of_group : Buffered → (number bucket : ℕ) → Bool
 is_of_group site number bucket = list_any (λ other. other == bucket) (numbers_in site.members number)
-
--- a change more in the part of its bucket
-in_bucket_more : (buckets b : ℕ) (cs : List Change) (c : Change) → in_bucket buckets b (cs ++ c ∷ []) ≡ in_bucket buckets b cs ++ (if bucket_number c.table c.key buckets == b then c ∷ [] else [])
-in_bucket_more buckets b cs c = filter-append (λ change. bucket_number change.table change.key buckets == b) cs (c ∷ [])
 
 -- what a group keeps of a bucket after a change of another bucket, or of this one
 kept_more : (buckets : ℕ) (site : Buffered) (number : ℕ) (c : Change) (e b : ℕ) →

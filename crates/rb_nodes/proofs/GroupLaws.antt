@@ -1,15 +1,18 @@
 -- What the nodes of a site represent after an event of one group: a node that fails or restarts.
-use Rattle.std.proofs.Common.{◌≡◌, ◌≢◌, ℕ, ◌+◌, ◌*◌, ◌/◌, ◌<◌, ◌≤◌, Bool, true, false, List, [], length, set, get_or, refl, sym, ap, subst, ◌∙◌, inl, inr, arith, length-set, get_or-set_same, get_or-set_other, ne_eqb}
+use Rattle.std.proofs.Common.{◌≡◌, ◌≢◌, ℕ, ◌+◌, ◌*◌, ◌/◌, ◌<◌, Bool, true, false, List, [], length, set, get_or, refl, sym, ap, subst, ◌∙◌, inl, inr, arith, length-set, get_or-set_same, get_or-set_other, ne_eqb}
 use Rattle.std.specs.Prelude.{◌⊎◌, ◌==◌, ◌^◌, if◌then◌else◌, Option, Some, None, is_some, Result, Ok, Err, IfOk, IfErr, OnOk}
 use Rattle.rb_base.specs.declared.epoch.Epoch.{Epoch}
 use Rattle.std.specs.List.{flat_map}
 use Rattle.std.proofs.lemmas.List.{length-map}
-use Rattle.std.proofs.lemmas.Nat.{div-mul-add}
+use Rattle.std.proofs.Math.Nat.{mul-div_cancel}
 use Rattle.rb_base.specs.Bucket.{bucket_number}
 use Rattle.rb_journal_defs.specs.Body.{in_bucket}
 use Rattle.rb_journal_defs.proofs.Order.{eq_or_ne}
 use Rattle.rb_journal_defs.proofs.Counts.{filter_length}
 use Rattle.rb_message_defs.specs.Nodes.{Node, node_at, owner_in, group_of, owned_by, with_node, with_owner, with_failure, with_restart}
+use Rattle.rb_message_defs.proofs.Places.{numbered_count}
+use Rattle.rb_message_defs.proofs.Groups.{IsIn, one_group, apart}
+use Rattle.rb_message_defs.proofs.Members.{node_changed, owner_moved}
 use Rattle.rb_group.specs.Kept.{Kept, with_since, with_takeover, since_in, again_in, owned_in}
 use Rattle.rb_group.specs.Group as called
 use Rattle.rb_group.specs.Group.{Keeps, IsNumberOf, AllFit}
@@ -23,8 +26,8 @@ use Rattle.rb_nodes.specs.Nodes.{Buffered, since_of, share_of, with_members, Gro
 use Rattle.rb_nodes.specs.declared.nodes.Nodes.{Nodes}
 use Rattle.rb_nodes.proofs.ShareLaws.{since_share}
 use Rattle.rb_nodes.proofs.CommitLaws.{is_of_group}
-use Rattle.rb_nodes.proofs.NodeLaws.{IsIn, share_count}
-use Rattle.rb_nodes.proofs.MemberLaws.{node_changed, owner_moved, owners_moved, share_changed, numbered_count, otherwise, keeps_otherwise, one_group, group_fits, in_group, owner_in_group, owned_share, successor_share}
+use Rattle.rb_nodes.proofs.NodeLaws.{share_count}
+use Rattle.rb_nodes.proofs.MemberLaws.{owners_moved, share_changed, otherwise, keeps_otherwise, fits_in, in_group, owner_in_group, owned_share, successor_share}
 
 -- the groups with one of them in other words
 groups_set : (buckets : ℕ) (new : Buffered) (groups : List Group) (number : ℕ) (group : Group) → number < length groups → GroupHolds buckets new number group →
@@ -65,9 +68,6 @@ group_at nodes buckets site node number group held below at there =
     let is = node_in nodes buckets site node number held below at in
     subst (GroupHolds buckets site number) (sym there) (held.groups number group is.within)
 
-pub number_within : (nodes : Nodes) (node number : ℕ) → CanFail nodes node → number ≡ node / nodes.replicas → number < length nodes.groups.items
-number_within nodes node number (buckets, site, held, below, count) at = (node_in nodes buckets site node number held below at).within
-
 -- the changes that a group keeps can be counted
 pub share_fits : (buckets : ℕ) (site : Buffered) (number : ℕ) → CanCount site → AllFit (share_of buckets site number)
 share_fits buckets site number count epoch bucket = go (is_of_group site number bucket)
@@ -97,29 +97,18 @@ can_restart nodes node number group (buckets, site, held, below, room) at there 
   room,
 )
 
-pub restart_within : (nodes : Nodes) (node number : ℕ) → CanRestart nodes node → number ≡ node / nodes.replicas → number < length nodes.groups.items
-restart_within nodes node number (buckets, site, held, below, room) at = (node_in nodes buckets site node number held below at).within
-
--- a number of another group is another number
-apart : (node number k step replicas groups : ℕ) → IsIn node number replicas groups → k < groups → k ≢ number → step < replicas → k * replicas + step ≢ node
-apart node number k step replicas groups is within differs below same =
-    differs (one_group node k number replicas groups (subst (λ (x : ℕ). IsIn x k replicas groups) same (record { within = within; from = omega arith; below = omega arith })) is)
-
 -- the nodes of another group are unchanged
 others_nodes : (nodes : Nodes) (buckets : ℕ) (site : Buffered) (node number k : ℕ) (to : Node) → HoldsNodes nodes buckets site → IsIn node number site.members.replicas (length nodes.groups.items) → k < length nodes.groups.items → k ≢ number →
     (share_of buckets site k).nodes ≡ (share_of buckets (with_members (with_node node to site.members) site) k).nodes
 others_nodes nodes buckets site node number k to held is within differs =
     map_same (λ other. since_of (node_at site.members other)) (λ other. since_of (node_at (with_node node to site.members) other)) (k * site.members.replicas) site.members.replicas one
   where
-    fits : k * site.members.replicas + site.members.replicas ≤ buckets
-    fits = group_fits k site.members.replicas (length nodes.groups.items) buckets within (ap (λ (r : ℕ). length nodes.groups.items * r) (sym held.replicas) ∙ held.count)
-
     one : (step : ℕ) → step < site.members.replicas → since_of (node_at site.members (k * site.members.replicas + step)) ≡ since_of (node_at (with_node node to site.members) (k * site.members.replicas + step))
     one step below =
         let other = k * site.members.replicas + step in
         let many = held.members in
-        let room = fits in
-        ap since_of (sym (node_changed node other to site.members (omega arith)
+        let room = fits_in nodes buckets site k held within in
+        ap since_of (sym (node_changed site.members node to other (λ same. omega arith)
         ∙ ap (λ (b : Bool). if b then to else node_at site.members other) (ne_eqb other node (apart node number k step site.members.replicas (length nodes.groups.items) is within differs below))))
 
 -- and so are its owners
@@ -128,14 +117,11 @@ others_owners : (nodes : Nodes) (buckets : ℕ) (site : Buffered) (node number k
 others_owners nodes buckets site node number k successor d held is within differs =
     map_same (owner_in site.members) (owner_in (with_owner node successor site.members)) (k * site.members.replicas) site.members.replicas one
   where
-    fits : k * site.members.replicas + site.members.replicas ≤ buckets
-    fits = group_fits k site.members.replicas (length nodes.groups.items) buckets within (ap (λ (r : ℕ). length nodes.groups.items * r) (sym held.replicas) ∙ held.count)
-
     one : (step : ℕ) → step < site.members.replicas → owner_in site.members (k * site.members.replicas + step) ≡ owner_in (with_owner node successor site.members) (k * site.members.replicas + step)
     one step below =
         let bucket = k * site.members.replicas + step in
         let many = held.owners in
-        let room = fits in
+        let room = fits_in nodes buckets site k held within in
         let its = owner_in_group nodes buckets site bucket k d held (record { within = within; from = omega arith; below = omega arith }) in
         sym (owner_moved node successor bucket site.members (omega arith)
         ∙ ap (λ (b : Bool). if b then successor else owner_in site.members bucket) (ne_eqb (owner_in site.members bucket) node (λ same.
@@ -148,15 +134,12 @@ pub node_set : (nodes next : Nodes) (buckets : ℕ) (site : Buffered) (node numb
 node_set nodes next buckets site node number to new held is same_buckets same_replicas items keeps =
     nodes_set nodes next buckets site changed site.members.owners number new held is.within (numbered_count (λ numbered. if numbered.0 == node then to else numbered.1) 0 site.members.nodes ∙ held.members) held.owners same_buckets same_replicas items
     (keeps_otherwise new buckets site number changed site.members.owners (with_since node (since_of to) (share_of buckets site number)).nodes (share_of buckets site number).owners
-    (share_changed buckets site number node to (let f = fits in let m = held.members in omega arith)) refl keeps)
+    (share_changed buckets site number node to (let f = fits_in nodes buckets site number held is.within in let m = held.members in omega arith)) refl keeps)
     (λ k d within differs. keeps_otherwise (get_or nodes.groups.items k d) buckets site k changed site.members.owners (share_of buckets site k).nodes (share_of buckets site k).owners
     (others_nodes nodes buckets site node number k to held is within differs) refl (held.groups k d within))
   where
     changed : List Node
     changed = (with_node node to site.members).nodes
-
-    fits : number * site.members.replicas + site.members.replicas ≤ buckets
-    fits = group_fits number site.members.replicas (length nodes.groups.items) buckets is.within (ap (λ (r : ℕ). length nodes.groups.items * r) (sym held.replicas) ∙ held.count)
 
 -- the nodes after a takeover
 pub takeover_set : (nodes next : Nodes) (buckets : ℕ) (site : Buffered) (node number successor sent : ℕ) (new : Group) → HoldsNodes nodes buckets site → IsIn node number site.members.replicas (length nodes.groups.items) →
@@ -166,8 +149,8 @@ takeover_set nodes next buckets site node number successor sent new held is same
     nodes_set nodes next buckets site changed moved number new held is.within (numbered_count (λ numbered. if numbered.0 == node then to else numbered.1) 0 site.members.nodes ∙ held.members)
     (length-map site.members.owners (λ owner. if owner == node then successor else owner) ∙ held.owners) same_buckets same_replicas items
     (keeps_otherwise new buckets site number changed moved (with_since node None (share_of buckets site number)).nodes (with_takeover node successor (share_of buckets site number)).owners
-    (share_changed buckets site number node to (let f = fits in let m = held.members in omega arith))
-    (owners_moved node successor site.members (number * site.members.replicas) site.members.replicas (let f = fits in let m = held.owners in omega arith)) keeps)
+    (share_changed buckets site number node to (let f = fits_in nodes buckets site number held is.within in let m = held.members in omega arith))
+    (owners_moved node successor site.members (number * site.members.replicas) site.members.replicas (let f = fits_in nodes buckets site number held is.within in let m = held.owners in omega arith)) keeps)
     (λ k d within differs. keeps_otherwise (get_or nodes.groups.items k d) buckets site k changed moved (share_of buckets site k).nodes (share_of buckets site k).owners
     (others_nodes nodes buckets site node number k to held is within differs) (others_owners nodes buckets site node number k successor d held is within differs) (held.groups k d within))
   where
@@ -179,9 +162,6 @@ takeover_set nodes next buckets site node number successor sent new held is same
 
     moved : List ℕ
     moved = (with_owner node successor site.members).owners
-
-    fits : number * site.members.replicas + site.members.replicas ≤ buckets
-    fits = group_fits number site.members.replicas (length nodes.groups.items) buckets is.within (ap (λ (r : ℕ). length nodes.groups.items * r) (sym held.replicas) ∙ held.count)
 
 -- what a group's failure is at the site
 pub fails_to : (nodes next : Nodes) (buckets : ℕ) (site : Buffered) (node number sent : ℕ) (old new : Group) (outcome : FailOutcome) → HoldsNodes nodes buckets site → node < buckets → number ≡ node / nodes.replicas →
@@ -215,9 +195,7 @@ fails_to nodes next buckets site node number sent old new outcome held below at 
     )
       where
         whole : number * site.members.replicas / site.members.replicas ≡ number
-        whole = let some = held.some in let same = held.replicas in
-            ap (λ (n : ℕ). n / site.members.replicas) (let plus : number * site.members.replicas ≡ number * site.members.replicas + 0 = omega arith in plus)
-            ∙ div-mul-add number site.members.replicas 0 (omega arith)
+        whole = let some = held.some in let same = held.replicas in mul-div_cancel number {n = site.members.replicas} (omega arith)
 
 -- a node that is up in its group is up at the site
 since_up : (node : Node) → is_some (since_of node) ≡ node.up

@@ -1,4 +1,3 @@
-pub mod Keys
 pub mod ShareLaws
 pub mod CommitLaws
 pub mod NewLaws

@@ -1,7 +1,7 @@
 -- What each step leaves of the nodes of a site and of the messages that they sent.
-use Rattle.std.proofs.Common.{◌≡◌, ℕ, zero, suc, ◌+◌, ◌*◌, ◌/◌, ◌<◌, ◌≤◌, Bool, true, false, List, [], ◌∷◌, ◌++◌, length, map, refl, sym, ap, subst, ◌∙◌, arith}
-use Rattle.std.specs.Prelude.{◌==◌, if◌then◌else◌, max, Option, Some, None, unwrap_or, Result, Ok, Err, IfOk, IfErr, OnOk}
-use Rattle.std.specs.List.{AllByRecursion, slice_get}
+use Rattle.std.proofs.Common.{◌≡◌, ℕ, ◌+◌, ◌*◌, ◌/◌, ◌<◌, true, false, List, [], ◌++◌, length, refl, sym, ap, subst, ◌∙◌, arith}
+use Rattle.std.specs.Prelude.{◌==◌, if◌then◌else◌, Option, Some, None, Result, Ok, Err, IfOk}
+use Rattle.std.specs.List.{AllByRecursion}
 use Rattle.std.specs.Option.{option_map_or}
 use Rattle.std.proofs.Math.Path.{fun_ext}
 use Rattle.rb_base.specs.declared.epoch.Epoch.{Epoch}
@@ -9,20 +9,20 @@ use Rattle.rb_base.specs.declared.change.Change.{Change}
 use Rattle.rb_base.specs.declared.message.Sent.{Sent}
 use Rattle.rb_journal_defs.specs.Body.{numbers_below}
 use Rattle.rb_journal_defs.specs.Clock.{first_epoch}
-use Rattle.rb_message_defs.specs.Nodes.{nodes_at_first, node_from, down, node_at, group_of, successor_of, owned_by, with_failure, with_owner, with_restart}
+use Rattle.rb_message_defs.specs.Nodes.{nodes_at_first, down, node_at, group_of, successor_of, owned_by, with_failure, with_restart}
+use Rattle.rb_message_defs.proofs.Members.{failed_after, failed_restart, none_failed}
 use Rattle.rb_group.specs.declared.answers.FailOutcome.{FailOutcome}
 use Rattle.rb_group.specs.declared.answers.FailOutcome.TheVariants as outcomes
 use Rattle.rb_group.specs.declared.answers.GroupFault.{GroupFault}
-use Rattle.rb_group.specs.declared.answers.GroupFault.TheVariants as faults
-use Rattle.rb_nodes.specs.Nodes.{Buffered, HoldsNodes, FailsTo, FailFault, nothing_done, with_close, with_members, needed_by, sent_at_close, sent_at_resend, sent_at_takeover}
+use Rattle.rb_nodes.specs.Nodes.{Buffered, HoldsNodes, FailsTo, nothing_done, with_close, with_members, needed_by, sent_at_close, sent_at_resend, sent_at_takeover}
 use Rattle.rb_nodes.specs.Outbox.{HoldsSent, OwnersIn, nodes_in}
-use Rattle.rb_nodes.specs.Net.{Net, HoldsNet, new_net, failed_in, loss_of, closed_net, failed_net, taken_over_net, lost_net, failure_of, resent_net, restarted_net, RefusesFailure, CanCommit, CanClose, CanFail, CanRestart, CanResend}
+use Rattle.rb_nodes.specs.Net.{Net, HoldsNet, new_net, failed_in, loss_of, closed_net, failed_net, taken_over_net, lost_net, failure_of, resent_net, restarted_net, CanCommit, CanClose, CanFail, CanRestart, CanResend}
 use Rattle.rb_nodes.specs.declared.answers.NodeFailure.{NodeFailure}
 use Rattle.rb_nodes.specs.declared.answers.NodeFailure.TheVariants as failures
 use Rattle.rb_nodes.specs.declared.nodes.Nodes.{Nodes}
 use Rattle.rb_nodes.specs.declared.outbox.Outbox.{Outbox}
 use Rattle.rb_nodes.specs.declared.site_nodes.SiteNodes.{SiteNodes}
-use Rattle.rb_nodes.proofs.PlaceLaws.{groups_are, owner_below, failed_after, failed_restart}
+use Rattle.rb_nodes.proofs.PlaceLaws.{groups_are, owner_below}
 use Rattle.rb_nodes.proofs.SenderLaws.{closing_senders, resending_senders, takeover_senders}
 
 -- nodes of these parts
@@ -172,15 +172,6 @@ net_moved old new buckets net after held groups same outbox lost = record {
   lost = ap loss_of lost ∙ held.lost;
 }
 
--- the nodes after a refused failure
-pub net_refused : (old new : SiteNodes) (buckets : ℕ) (net : Net) (node : ℕ) (fault : GroupFault) → HoldsNet old buckets net →
-    ((b : ℕ) (s : Buffered) → HoldsNodes old.nodes b s → HoldsNodes new.nodes b s × FailFault s node fault) → new.outbox ≡ old.outbox → new.lost ≡ old.lost → RefusesFailure node buckets net new fault
-net_refused old new buckets net node (faults.NodeDown other) held refused outbox lost =
-    let (stands, cause) = refused buckets net.buffered held.groups in
-    (cause.0, cause.1, net_moved old new buckets net net.buffered held stands refl outbox lost)
-net_refused old new buckets net node (faults.NodeUp other) held refused outbox lost = (refused buckets net.buffered held.groups).1
-net_refused old new buckets net node faults.NoMemory held refused outbox lost = tt
-
 -- the nodes after a restart
 pub net_restarted : (old new : SiteNodes) (result : Result Epoch GroupFault) (node : ℕ) → CanRestart old node →
     IfOk result (λ since. (b : ℕ) (s : Buffered) → HoldsNodes old.nodes b s → (since.0 ≡ s.opened + 1) × ((node_at s.members node).up ≡ false) × HoldsNodes new.nodes b (with_members (with_restart node s.opened s.members) s)) →
@@ -195,12 +186,6 @@ net_restarted old new (Ok since) node (other, now, stood, below, room) restarted
     fun_ext (λ other. sym (failed_restart net.buffered.members node net.buffered.opened other (omega arith))) in
     (since_is, down, net_moved old new buckets net (with_members (with_restart node net.buffered.opened net.buffered.members) net.buffered) held stands same outbox lost)
 net_restarted old new (Err fault) node ready restarted outbox lost = tt
-
--- no node of a new site has failed
-none_failed : (numbers : List ℕ) (node : ℕ) → (unwrap_or (slice_get (map (λ number. node_from first_epoch) numbers) node) down).failed_at ≡ 0
-none_failed [] node = refl
-none_failed (number ∷ numbers) zero = refl
-none_failed (number ∷ numbers) (suc node) = none_failed numbers node
 
 -- an outbox in which nothing was sent, by other words for the same counts
 nothing_sent : (outbox : Outbox) (failed_at other : ℕ → ℕ) → ((node : ℕ) → other node ≡ failed_at node) → HoldsSent outbox [] [] failed_at → HoldsSent outbox [] [] other

@@ -1,45 +1,22 @@
 -- A new group represents its share of a new site, once epoch 0 is acknowledged.
-use Rattle.std.proofs.Common.{◌≡◌, ℕ, zero, suc, ◌+◌, ◌*◌, ◌<◌, ◌≤◌, Bool, true, false, List, [], ◌∷◌, ◌++◌, length, map, refl, sym, ap, subst, ◌∙◌, arith}
-use Rattle.std.specs.Prelude.{if◌then◌else◌, Option, Some, unwrap_or, replicate}
-use Rattle.std.proofs.Math.Nat.{mul-le-mul_right, suc-mul}
-use Rattle.std.proofs.lemmas.List.{map-append, length-map}
+use Rattle.std.proofs.Common.{◌≡◌, ℕ, ◌+◌, ◌*◌, ◌<◌, ◌≤◌, Bool, true, false, List, [], length, map, refl, sym, ap, subst, ◌∙◌, arith}
+use Rattle.std.specs.Prelude.{if◌then◌else◌, Option, Some, unwrap_or}
+use Rattle.std.proofs.lemmas.List.{length-map}
 use Rattle.rb_journal_defs.specs.Body.{in_bucket, numbers_below}
 use Rattle.rb_journal_defs.specs.Clock.{first_epoch}
 use Rattle.rb_message_defs.specs.Message.{home_node}
 use Rattle.rb_message_defs.specs.Nodes.{Node, down, node_from, nodes_at_first, node_at, owner_in}
+use Rattle.rb_message_defs.proofs.Numbers.{number_at, length_numbers}
+use Rattle.rb_message_defs.proofs.Places.{get_map}
+use Rattle.rb_message_defs.proofs.Ranges.{all_same, all_own}
+use Rattle.rb_message_defs.proofs.Groups.{group_fits}
 use Rattle.rb_group.specs.Kept.{Kept, new_group, with_acknowledged}
 use Rattle.rb_group.specs.Group.{Keeps}
 use Rattle.rb_group.specs.declared.group.Group.{Group}
-use Rattle.rb_message_defs.proofs.Numbers.{number_at, length_numbers}
 use Rattle.rb_nodes.specs.Nodes.{Buffered, since_of, kept_in, nothing_done, share_of, GroupHolds, GroupsHold, HoldsNodes}
 use Rattle.rb_nodes.specs.declared.nodes.Nodes.{Nodes}
-use Rattle.rb_nodes.proofs.ShareLaws.{keeps_same, get_map}
+use Rattle.rb_nodes.proofs.ShareLaws.{keeps_same}
 use Rattle.rb_nodes.proofs.CommitLaws.{is_of_group}
-
-one_longer : {X : Type 0} (n : ℕ) (x : X) → replicate (suc n) x ≡ replicate n x ++ x ∷ []
-one_longer zero x = refl
-one_longer {X} (suc n) x = ap (λ (xs : List X). x ∷ xs) (one_longer n x)
-
-last_number : {X : Type 0} (f : ℕ → X) (first n : ℕ) → map f (map (λ step. first + step) (numbers_below (suc n))) ≡ map f (map (λ step. first + step) (numbers_below n)) ++ f (first + n) ∷ []
-last_number f first n = ap (map f) (map-append (λ step. first + step) (numbers_below n) (n ∷ [])) ∙ map-append f (map (λ step. first + step) (numbers_below n)) ((first + n) ∷ [])
-
--- what is the same for all numbers of a group
-all_same : {X : Type 0} (f : ℕ → X) (x : X) (first n top : ℕ) → first + n ≤ top → ((k : ℕ) → k < top → f k ≡ x) → map f (map (λ step. first + step) (numbers_below n)) ≡ replicate n x
-all_same f x first zero top fits same = refl
-all_same {X} f x first (suc n) top fits same =
-    last_number f first n
-    ∙ ap (λ (xs : List X). xs ++ f (first + n) ∷ []) (all_same f x first n top (omega arith) same)
-    ∙ ap (λ (y : X). replicate n x ++ y ∷ []) (same (first + n) (omega arith))
-    ∙ sym (one_longer n x)
-
--- and what is each number itself
-all_own : (f : ℕ → ℕ) (first n top : ℕ) → first + n ≤ top → ((k : ℕ) → k < top → f k ≡ k) → map f (map (λ step. first + step) (numbers_below n)) ≡ map (λ step. first + step) (numbers_below n)
-all_own f first zero top fits own = refl
-all_own f first (suc n) top fits own =
-    last_number f first n
-    ∙ ap (λ (xs : List ℕ). xs ++ f (first + n) ∷ []) (all_own f first n top (omega arith) own)
-    ∙ ap (λ (y : ℕ). map (λ step. first + step) (numbers_below n) ++ y ∷ []) (own (first + n) (omega arith))
-    ∙ sym (map-append (λ step. first + step) (numbers_below n) (n ∷ []))
 
 pub new_holds : (groups replicas number opened : ℕ) (group : Group) → number < groups → opened ≡ first_epoch → Keeps group (with_acknowledged 0 (new_group (number * replicas) replicas opened)) →
     GroupHolds (groups * replicas) (nothing_done opened (nodes_at_first groups replicas)) number group
@@ -58,7 +35,7 @@ new_holds groups replicas number opened group within first_is keeps =
     share nodes owners = record { first = number * replicas; opened = opened; acknowledged = Some 0; changes = λ epoch bucket. []; closes = []; nodes = nodes; owners = owners }
 
     fits : number * replicas + replicas ≤ groups * replicas
-    fits = let h : suc number * replicas ≤ groups * replicas = mul-le-mul_right replicas (omega arith) in let s : suc number * replicas ≡ number * replicas + replicas = suc-mul number replicas in omega arith
+    fits = group_fits number replicas groups (groups * replicas) within refl
 
     none : (here : Bool) (b : ℕ) → [] ≡ (if here then in_bucket all b [] else [])
     none true b = refl

@@ -1,10 +1,8 @@
 -- What the nodes of a site represent after a commit.
-use Rattle.std.proofs.Common.{◌≡◌, ◌≢◌, ℕ, zero, suc, ◌+◌, ◌*◌, ◌/◌, ◌<◌, ◌≤◌, Bool, true, false, List, [], ◌∷◌, ◌++◌, length, map, get_or, refl, sym, ap, subst, ◌∙◌, inl, inr, arith, append_assoc, length-append, ne_eqb}
-use Rattle.std.specs.Prelude.{◌⊎◌, ◌==◌, ◌||◌, ◌-◌, if◌then◌else◌, Some, None}
-use Rattle.std.specs.List.{AllByRecursion, insert, list_any, remove, slice_get}
-use Rattle.std.proofs.Math.Nat.{div-mul-le_self, lt-div-mul-add, lt_of_mul-lt-mul_right, mul-le-mul_right, suc-mul}
-use Rattle.std.proofs.lemmas.Bool.{eqb-false}
-use Rattle.std.proofs.lemmas.List.{get_or_append_left, map-append, length-map}
+use Rattle.std.proofs.Common.{◌≡◌, ◌≢◌, ℕ, zero, suc, ◌+◌, ◌*◌, ◌/◌, ◌<◌, ◌≤◌, Bool, true, false, List, [], ◌∷◌, ◌++◌, length, get_or, sym, ap, subst, ◌∙◌, inl, inr, arith, length-append}
+use Rattle.std.specs.Prelude.{◌⊎◌, ◌==◌, ◌-◌, if◌then◌else◌}
+use Rattle.std.specs.List.{insert, remove}
+use Rattle.std.proofs.lemmas.List.{get_or_append_left}
 use Rattle.std.proofs.Math.Seq.{get_or-append_seam}
 use Rattle.std.proofs.lemmas.List.Edits.{get_or-remove_below, get_or-remove_above, get_or-insert_at, get_or-insert_below, get_or-insert_above}
 use Rattle.std.proofs.lemmas.Grind.{common_steps}
@@ -12,93 +10,29 @@ use Rattle.rb_base.specs.Bucket.{bucket_number}
 use Rattle.rb_base.specs.declared.change.Change.{Change}
 use Rattle.rb_base.specs.declared.message.Message.TheVariants.{Part}
 use Rattle.rb_base.specs.declared.message.Sent.{Sent}
-use Rattle.rb_journal_defs.specs.Body.{in_bucket, numbers_below}
+use Rattle.rb_journal_defs.specs.Body.{in_bucket}
 use Rattle.rb_journal_defs.proofs.Counts.{filter_length}
 use Rattle.rb_message_defs.specs.Message.{part_message, sent_by}
-use Rattle.rb_message_defs.specs.Nodes.{node_at, numbers_in, owner_in}
-use Rattle.rb_message_defs.proofs.Numbers.{length_numbers}
+use Rattle.rb_message_defs.specs.Nodes.{node_at, owner_in}
+use Rattle.rb_message_defs.proofs.Places.{of_all, replaced_length, at_place, place_within}
+use Rattle.rb_message_defs.proofs.Ranges.{at_number, among, none_among, numbers_long}
+use Rattle.rb_message_defs.proofs.Groups.{IsIn, group_of_bucket, outside}
 use Rattle.rb_journal_defs.proofs.Order.{eq_or_ne, lt_or_le}
 use Rattle.rb_group.specs.Kept.{Kept, with_part, covers_in, owner_in as kept_owner}
 use Rattle.rb_group.specs.Group.{Keeps, IsNumberOf, part_sent, CanCommit as CanCommitPart}
 use Rattle.rb_group.specs.declared.group.Group.{Group}
 use Rattle.rb_nodes.specs.Nodes.{Buffered, OwnersCover, since_of, kept_in, share_of, with_changes, GroupHolds, GroupsHold, HoldsNodes, CanCommit}
 use Rattle.rb_nodes.specs.declared.nodes.Nodes.{Nodes}
-use Rattle.rb_nodes.proofs.ShareLaws.{at_number, owner_share, covers_share}
+use Rattle.rb_nodes.proofs.ShareLaws.{owner_share, covers_share}
 use Rattle.rb_nodes.proofs.CommitLaws.{is_of_group, group_committed, group_beside}
-
--- the group of a bucket, by its number
-pub record IsIn (bucket number replicas groups : ℕ) : Type 0 where
-  pub within : number < groups
-  pub from : number * replicas ≤ bucket
-  pub below : bucket < number * replicas + replicas
-
-pub group_of_bucket : (bucket replicas groups buckets : ℕ) → 1 ≤ replicas → groups * replicas ≡ buckets → bucket < buckets → IsIn bucket (bucket / replicas) replicas groups
-group_of_bucket bucket replicas groups buckets some count below =
-    let low = div-mul-le_self bucket replicas in record {
-      within = lt_of_mul-lt-mul_right replicas (omega arith);
-      from = low;
-      below = lt-div-mul-add (omega arith);
-    }
-
-any_joined : (test : ℕ → Bool) (xs ys : List ℕ) → list_any test (xs ++ ys) ≡ (list_any test xs || list_any test ys)
-any_joined test [] ys = refl
-any_joined test (x ∷ xs) ys = go (test x) (any_joined test xs ys)
-  where
-    go : (b : Bool) → list_any test (xs ++ ys) ≡ (list_any test xs || list_any test ys) → (b || list_any test (xs ++ ys)) ≡ ((b || list_any test xs) || list_any test ys)
-    go true rest = refl
-    go false rest = rest
-
--- the numbers from one on are these
-among_last : (first n b : ℕ) → list_any (λ other. other == b) (map (λ step. first + step) (numbers_below (suc n))) ≡ (list_any (λ other. other == b) (map (λ step. first + step) (numbers_below n)) || ((first + n == b) || false))
-among_last first n b =
-    ap (list_any (λ other. other == b)) (map-append (λ step. first + step) (numbers_below n) (n ∷ []))
-    ∙ any_joined (λ other. other == b) (map (λ step. first + step) (numbers_below n)) ((first + n) ∷ [])
-
-among : (first n b : ℕ) → first ≤ b → b < first + n → list_any (λ other. other == b) (map (λ step. first + step) (numbers_below n)) ≡ true
-among first zero b from below = absurd (omega arith)
-among first (suc n) b from below = among_last first n b ∙ go (first + n == b) refl (λ l. among first n b from l)
-  where
-    any_true : (x : Bool) → (x || true) ≡ true
-    any_true true = refl
-    any_true false = refl
-
-    go : (same : Bool) → (first + n == b) ≡ same → (b < first + n → list_any (λ other. other == b) (map (λ step. first + step) (numbers_below n)) ≡ true) →
-        (list_any (λ other. other == b) (map (λ step. first + step) (numbers_below n)) || (same || false)) ≡ true
-    go true q rest = any_true (list_any (λ other. other == b) (map (λ step. first + step) (numbers_below n)))
-    go false q rest = rw (rest (below_top (eqb-false (first + n) b q))) refl
-      where
-        below_top : first + n ≢ b → b < first + n
-        below_top differs = omega arith
-
-none_among : (first n b : ℕ) → (b < first) ⊎ (first + n ≤ b) → list_any (λ other. other == b) (map (λ step. first + step) (numbers_below n)) ≡ false
-none_among first zero b outside = refl
-none_among first (suc n) b outside = among_last first n b ∙ rw (none_among first n b (less outside), ne_eqb (first + n) b (differs outside)) refl
-  where
-    less : (b < first) ⊎ (first + suc n ≤ b) → (b < first) ⊎ (first + n ≤ b)
-    less (inl l) = inl l
-    less (inr l) = inr (omega arith)
-
-    differs : (b < first) ⊎ (first + suc n ≤ b) → first + n ≢ b
-    differs (inl l) same = omega arith
-    differs (inr l) same = omega arith
 
 -- the group of a bucket has it, and the others have not
 pub of_its_group : (site : Buffered) (bucket number groups : ℕ) → IsIn bucket number site.members.replicas groups → is_of_group site number bucket ≡ true
 of_its_group site bucket number groups is = among (number * site.members.replicas) site.members.replicas bucket is.from is.below
 
 of_no_other : (site : Buffered) (bucket number k groups : ℕ) → IsIn bucket number site.members.replicas groups → k ≢ number → is_of_group site k bucket ≡ false
-of_no_other site bucket number k groups is differs = none_among (k * site.members.replicas) site.members.replicas bucket (go (lt_or_le k number))
-  where
-    step : (x y : ℕ) → x < y → x * site.members.replicas + site.members.replicas ≤ y * site.members.replicas
-    step x y l = let h : suc x * site.members.replicas ≤ y * site.members.replicas = mul-le-mul_right site.members.replicas (omega arith) in let s : suc x * site.members.replicas ≡ x * site.members.replicas + site.members.replicas = suc-mul x site.members.replicas in omega arith
-
-    go : (k < number) ⊎ (number ≤ k) → (bucket < k * site.members.replicas) ⊎ (k * site.members.replicas + site.members.replicas ≤ bucket)
-    go (inl l) = inr (let h = step k number l in let a = is.from in omega arith)
-    go (inr l) = inl (let h = step number k (omega arith) in let a = is.below in omega arith)
-
--- the groups with one in its place again
-replaced_length : (groups : List Group) (number : ℕ) (new : Group) → number < length groups → length (insert (remove groups number) number new) ≡ length groups
-replaced_length groups number new within = grind (arith, common_steps)
+of_no_other site bucket number k groups is differs =
+    none_among (k * site.members.replicas) site.members.replicas bucket (outside bucket number k site.members.replicas groups is differs)
 
 -- the same number of groups after a commit
 pub groups_stay : (nodes : Nodes) (bucket number : ℕ) (new : Group) (groups : List Group) → CanCommit nodes → bucket < nodes.buckets → number ≡ bucket / nodes.replicas → groups ≡ insert (remove nodes.groups.items number) number new → length groups ≡ length nodes.groups.items
@@ -168,25 +102,23 @@ nodes_committed nodes next buckets site bucket number old new c held below named
           (groups_committed buckets site nodes.groups.items number bucket new c is named_here held.groups (keeps (share_of buckets site number) group));
     }
 
-pub of_all : (P : ℕ → Type 0) (xs : List ℕ) (k x : ℕ) → AllByRecursion P xs → slice_get xs k ≡ Some x → P x
-of_all P [] k x all there = absurd (let g : None ≡ Some x = there in cc)
-of_all P (y ∷ xs) zero x all there = subst P (let g : Some y ≡ Some x = there in cc) all.0
-of_all P (y ∷ xs) (suc k) x all there = of_all P xs k x all.1 there
-
 -- the nodes of a share are as many as the numbers of its group
 pub share_count : (buckets : ℕ) (site : Buffered) (number : ℕ) → length (share_of buckets site number).nodes ≡ site.members.replicas
-share_count buckets site number =
-    length-map (numbers_in site.members number) (λ node. since_of (node_at site.members node))
-    ∙ length-map (numbers_below site.members.replicas) (λ step. number * site.members.replicas + step)
-    ∙ length_numbers site.members.replicas
+share_count buckets site number = numbers_long (λ node. since_of (node_at site.members node)) (number * site.members.replicas) site.members.replicas
 
--- a bucket's owner is of the bucket's group, and covers in its share if it does at the site
+-- a bucket's owner is of the bucket's group
+pub owner_number : (buckets : ℕ) (site : Buffered) (number bucket groups : ℕ) (group : Group) → GroupHolds buckets site number group → IsIn bucket number site.members.replicas groups →
+    IsNumberOf (share_of buckets site number) (owner_in site.members bucket)
+owner_number buckets site number bucket groups group held is =
+    of_all (IsNumberOf (share_of buckets site number)) (share_of buckets site number).owners (bucket - number * site.members.replicas) (owner_in site.members bucket) held.owners_in
+    (at_number (owner_in site.members) (number * site.members.replicas) site.members.replicas bucket is.from is.below)
+
+-- and covers in its share if it does at the site
 pub owner_covers : (buckets : ℕ) (site : Buffered) (number bucket groups : ℕ) (group : Group) → GroupHolds buckets site number group → IsIn bucket number site.members.replicas groups → bucket < buckets → OwnersCover buckets site →
     covers_in (share_of buckets site number) (kept_owner (share_of buckets site number) bucket) ≡ true
 owner_covers buckets site number bucket groups group held is below cover =
     let owner = owner_in site.members bucket in
-    let its : IsNumberOf (share_of buckets site number) owner = of_all (IsNumberOf (share_of buckets site number)) (share_of buckets site number).owners (bucket - number * site.members.replicas) owner held.owners_in
-    (at_number (owner_in site.members) (number * site.members.replicas) site.members.replicas bucket is.from is.below) in
+    let its = owner_number buckets site number bucket groups group held is in
     let count = share_count buckets site number in
     ap (covers_in (share_of buckets site number)) (owner_share buckets site number bucket is.from is.below)
     ∙ covers_share buckets site number owner its.0 (let l = its.1 in omega arith)
@@ -228,19 +160,6 @@ group_more buckets site groups group held is = λ k d within. go k d (let n = le
         (subst (GroupHolds buckets site (length groups)) (sym (get_or-append_seam groups group [] d)) is)
     go k d within (inr differs) =
         subst (GroupHolds buckets site k) (sym (get_or_append_left groups (group ∷ []) d k (omega arith))) (held k d (omega arith))
-
-pub no_groups : (buckets : ℕ) (site : Buffered) → GroupsHold buckets site []
-no_groups buckets site = λ k d within. absurd (omega arith)
-
--- the group that a loop is at, after those before it
-pub whole_more : (all before rest after : List Group) (group : Group) → all ≡ before ++ rest → rest ≡ group ∷ after → all ≡ (before ++ group ∷ []) ++ after
-whole_more all before rest after group whole is = whole ∙ ap (λ (gs : List Group). before ++ gs) is ∙ sym (append_assoc before (group ∷ []) after)
-
-at_place : (all before rest after : List Group) (group d : Group) → all ≡ before ++ rest → rest ≡ group ∷ after → group ≡ get_or all (length before) d
-at_place all before rest after group d whole is = sym (ap (λ (gs : List Group). get_or gs (length before) d) (whole ∙ ap (λ (gs : List Group). before ++ gs) is) ∙ get_or-append_seam before group after d)
-
-pub place_within : (all before rest after : List Group) (group : Group) → all ≡ before ++ rest → rest ≡ group ∷ after → length before < length all
-place_within all before rest after group whole is = let n = ap length (whole ∙ ap (λ (gs : List Group). before ++ gs) is) in let s = length-append before (group ∷ after) in omega arith
 
 pub group_here : (nodes : Nodes) (buckets : ℕ) (site : Buffered) (before rest after : List Group) (group : Group) → HoldsNodes nodes buckets site → nodes.groups.items ≡ before ++ rest → rest ≡ group ∷ after →
     GroupHolds buckets site (length before) group

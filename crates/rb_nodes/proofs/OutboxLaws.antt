@@ -1,25 +1,27 @@
--- The places that wait in an outbox, as a list in order.
-use Rattle.std.proofs.Common.{◌≡◌, ℕ, zero, suc, ◌<◌, ◌≤◌, Bool, true, false, List, [], ◌∷◌, ◌++◌, length, filter, refl, sym, ap, subst, ◌∙◌, arith, length-append, eqb-true}
-use Rattle.std.specs.Prelude.{Result, Ok, Err, OnOk, Option, Some, None, ◌==◌, not, ◌||◌, ◌&&◌, nat_lt, if◌then◌else◌}
+-- What an outbox represents after one more message, a delivery, a drop or a failure.
+use Rattle.std.proofs.Common.{◌≡◌, ℕ, suc, ◌<◌, ◌≤◌, Bool, true, false, List, [], ◌∷◌, ◌++◌, length, filter, refl, sym, ap, subst, ◌∙◌, arith, length-append, eqb-true}
+use Rattle.std.specs.Prelude.{Result, Ok, Err, OnOk, Option, Some, None, ◌==◌, not, nat_lt, if◌then◌else◌}
 use Rattle.std.specs.List.{AllByRecursion, list_any, slice_get}
 use Rattle.std.specs.Option.{option_map_or}
 use Rattle.std.specs.Ordering.{nat_cmp}
 use Rattle.std.specs.BTreeMap.{is_at}
 use Rattle.std.specs.BTreeSet.{insert_key}
 use Rattle.std.specs.Set.{remove_key}
-use Rattle.std.proofs.lemmas.Bool.{ltb-true, lt-ltb, eqb-false}
+use Rattle.std.proofs.lemmas.Bool.{eqb-false}
 use Rattle.std.proofs.lemmas.List.{get_or-set_same, get_or-set_other, length-set}
-use Rattle.std.proofs.lemmas.List.Elements.{filter-append}
+use Rattle.std.proofs.lemmas.List.Elements.{filter-append, filter_agree}
 use Rattle.std.proofs.lemmas.Option.{slice_get-get_or, get_or_from_slice_get}
 use Rattle.std.proofs.Math.ListN.{get_or, set}
 use Rattle.rb_base.specs.declared.message.Sent.{Sent}
 use Rattle.rb_journal_defs.specs.Body.{numbers_below}
 use Rattle.rb_journal_defs.specs.Transaction.{first_of}
-use Rattle.rb_message_defs.proofs.Messages.{all_joined}
 use Rattle.rb_message_defs.specs.Nodes.{is_gone, waiting_places}
+use Rattle.rb_message_defs.proofs.Messages.{all_joined}
+use Rattle.rb_message_defs.proofs.Places.{of_all}
+use Rattle.rb_message_defs.proofs.Keys.{insert_last, below_next, below_more, none_removed, removed_kept, removed_below}
+use Rattle.rb_message_defs.proofs.Waiting.{same_below, kept_of_kept, gone_as_before, not_gone_yet, kept_alone, waiting_more, waiting_without, gone_later}
 use Rattle.rb_nodes.specs.Outbox.{HoldsSent}
 use Rattle.rb_nodes.specs.declared.outbox.Outbox.{Outbox}
-use Rattle.rb_message_defs.proofs.Waiting.{insert_last, below_more, same_below, kept_of_kept, none_removed, removed_kept, removed_below, gone_as_before, not_gone_yet, kept_alone, waiting_more, below_next, same_tests, waiting_without}
 
 -- what the counts of the nodes say, if they are unchanged
 same_counts : (failed_at : ℕ → ℕ) (old new : List ℕ) → new ≡ old → ((node : ℕ) → node < length old → slice_get old node ≡ Some (failed_at node)) → (node : ℕ) → node < length new → slice_get new node ≡ Some (failed_at node)
@@ -112,28 +114,6 @@ first_kept outbox sent delivered failed_at place held first stays =
         let kx : test x ≡ true = ap test (sym px) ∙ kept in
         rw kx same
 
--- the sender of the message at a place
-sender_at : (count : ℕ) (sent : List Sent) (place : ℕ) (message : Sent) → AllByRecursion (λ m. m.sender < count) sent → slice_get sent place ≡ Some message → message.sender < count
-sender_at count [] place message all there = absurd (let n : None ≡ Some message = there in cc)
-sender_at count (m ∷ sent) zero message all there =
-    let same : m ≡ message = let s : Some m ≡ Some message = there in cc in
-    subst (λ (m : Sent). m.sender < count) same all.0
-sender_at count (m ∷ sent) (suc place) message all there = sender_at count sent place message all.1 there
-
--- a place stays gone if nodes failed later
-gone_later : (before after : ℕ → ℕ) (place : ℕ) (found : Option Sent) → ((node : ℕ) → before node ≤ after node) →
-    not (option_map_or (λ (m : Sent). nat_lt place (after m.sender)) found false) ≡ true → not (option_map_or (λ (m : Sent). nat_lt place (before m.sender)) found false) ≡ true
-gone_later before after place None later stays = stays
-gone_later before after place (Some m) later stays = go (nat_lt place (before m.sender)) refl
-  where
-    go : (b : Bool) → nat_lt place (before m.sender) ≡ b → not b ≡ true
-    go false q = refl
-    go true q =
-        let l : place < before m.sender = ltb-true place (before m.sender) q in
-        let k : before m.sender ≤ after m.sender = later m.sender in
-        let gone : nat_lt place (after m.sender) ≡ true = lt-ltb place (after m.sender) (omega arith) in
-        ap not (sym gone) ∙ stays
-
 -- an outbox one of whose nodes failed
 pub failed_now : (old new : Outbox) (sent : List Sent) (delivered : List ℕ) (failed_at : ℕ → ℕ) (node count : ℕ) → HoldsSent old sent delivered failed_at → node < length old.failed.items → count ≡ length old.sent.items →
     new.sent.items ≡ old.sent.items → new.waiting.keys ≡ old.waiting.keys → new.failed.items ≡ set old.failed.items node count → HoldsSent new sent delivered (λ other. if other == node then length sent else failed_at other)
@@ -188,8 +168,8 @@ unfolding still_waiting
 still_waiting_is outbox sent delivered failed_at held =
     let counted : ℕ → ℕ = λ node. get_or outbox.failed.items node 0 in
     ap (λ (ss : List Sent). length (filter (λ place. not (is_gone counted ss place)) outbox.waiting.keys)) held.sent_is
-    ∙ ap length (same_tests (λ place. not (is_gone counted sent place)) (λ place. not (is_gone failed_at sent place)) outbox.waiting.keys
-    (λ place. ap not (same_gone place (slice_get sent place) (λ message there. get_or_from_slice_get outbox.failed.items message.sender (failed_at message.sender) 0 (held.failed_is message.sender (sender_at (length outbox.failed.items) sent place message held.senders there))))))
+    ∙ ap length (filter_agree (λ place. not (is_gone counted sent place)) (λ place. not (is_gone failed_at sent place))
+    (λ place. ap not (same_gone place (slice_get sent place) (λ message there. get_or_from_slice_get outbox.failed.items message.sender (failed_at message.sender) 0 (held.failed_is message.sender (of_all (λ (m : Sent). m.sender < length outbox.failed.items) sent place message held.senders there))))) outbox.waiting.keys)
     ∙ ap length held.waiting
   where
     same_gone : (place : ℕ) (found : Option Sent) → ((message : Sent) → found ≡ Some message → get_or outbox.failed.items message.sender 0 ≡ failed_at message.sender) →

@@ -1,16 +1,17 @@
 -- What is sent and buffered, one change after the other.
-use Rattle.std.proofs.Common.{◌≡◌, ℕ, ◌+◌, ◌<◌, Bool, true, false, cond, List, [], ◌∷◌, ◌++◌, length, map, take, get_or, refl, sym, ap, subst, ◌∙◌, arith, append_assoc, length-append, eq-eqb}
+use Rattle.std.proofs.Common.{◌≡◌, ℕ, ◌+◌, ◌<◌, Bool, true, false, cond, List, [], ◌∷◌, ◌++◌, length, map, take, get_or, refl, sym, ap, subst, ◌∙◌, arith, append_assoc, length-append}
 use Rattle.std.specs.Prelude.{◌==◌, if◌then◌else◌}
 use Rattle.std.specs.List.{list_any}
-use Rattle.std.proofs.lemmas.List.{append-nil, map-append, take_more, length-take-le}
+use Rattle.std.proofs.lemmas.List.{append-nil, map-append, length-take-le}
 use Rattle.rb_base.specs.Bucket.{bucket_number}
 use Rattle.rb_base.specs.declared.change.Change.{Change}
 use Rattle.rb_base.specs.declared.message.Message.{Message}
 use Rattle.rb_base.specs.declared.message.Sent.{Sent}
 use Rattle.rb_journal_defs.specs.Body.{in_bucket}
 use Rattle.rb_message_defs.specs.Message.{part_message, parts_sent, sent_by}
-use Rattle.rb_message_defs.proofs.Messages.{bucket_within, parts_sent_first}
 use Rattle.rb_message_defs.specs.Nodes.{owner_in, numbers_in}
+use Rattle.rb_message_defs.proofs.Messages.{bucket_within}
+use Rattle.rb_message_defs.proofs.Parts.{both_changes, here_changes, parts_more, upto_here}
 use Rattle.rb_nodes.proofs.ShareLaws.{keeps_same}
 use Rattle.rb_nodes.specs.Nodes.{Buffered, share_of, kept_in, with_changes, HoldsNodes, CanSend, CanCommit}
 use Rattle.rb_nodes.specs.Outbox.{HoldsSent, nodes_in, OwnersIn}
@@ -30,29 +31,6 @@ nodes_same nodes buckets site changes same held = record {
       keeps_same (get_or nodes.groups.items k d) (share_of buckets site k) (kept_in (record site { changes = changes }) buckets k)
       (λ e b. ap (λ (cs : List Change). if list_any (λ other. other == b) (numbers_in site.members k) then in_bucket buckets b cs else []) (same e)) (held.groups k d within);
 }
-
--- one more change after these
-both_changes : (o e : ℕ) (before cs : List Change) (c : Change) → cond (o == e) (cond (o == e) (before ++ cs) before ++ c ∷ []) (cond (o == e) (before ++ cs) before) ≡ cond (o == e) (before ++ (cs ++ c ∷ [])) before
-both_changes o e before cs c = go (o == e)
-  where
-    go : (b : Bool) → cond b (cond b (before ++ cs) before ++ c ∷ []) (cond b (before ++ cs) before) ≡ cond b (before ++ (cs ++ c ∷ [])) before
-    go true = append_assoc before cs (c ∷ [])
-    go false = refl
-
-here_changes : (o : ℕ) (before cs : List Change) → cond (o == o) (before ++ cs) before ≡ before ++ cs
-here_changes o before cs = rw (eq-eqb o o refl) refl
-
-parts_more : (buckets o : ℕ) (earlier cs : List Change) (c : Change) → parts_sent buckets o earlier (cs ++ c ∷ []) ≡ parts_sent buckets o earlier cs ++ part_message buckets o (earlier ++ cs) c ∷ []
-unfolding parts_sent
-parts_more buckets o earlier [] c = ap (λ (es : List Change). part_message buckets o es c ∷ []) (append-nil earlier ∙ sym (append-nil earlier))
-parts_more buckets o earlier (d ∷ cs) c =
-    parts_sent_first buckets o earlier (cs ++ c ∷ []) d
-    ∙ ap (λ (ms : List Message). part_message buckets o earlier d ∷ ms) (parts_more buckets o (earlier ++ d ∷ []) cs c ∙ ap (λ (es : List Change). parts_sent buckets o (earlier ++ d ∷ []) cs ++ part_message buckets o es c ∷ []) (append_assoc earlier (d ∷ []) cs))
-    ∙ ap (λ (ms : List Message). ms ++ part_message buckets o (earlier ++ d ∷ cs) c ∷ []) (sym (parts_sent_first buckets o earlier cs d))
-
--- the changes up to the one that a loop is at, and it
-upto_here : (changes : List Change) (i : ℕ) (c : Change) → i < length changes → c ≡ get_or changes i c → take i changes ++ c ∷ [] ≡ take (i + 1) changes
-upto_here changes i c within is = sym (take_more changes i c within ∙ ap (λ (d : Change). take i changes ++ d ∷ []) (sym is))
 
 -- the nodes after the change that a loop is at
 pub sent_nodes : (now after : Nodes) (buckets : ℕ) (site : Buffered) (changes : List Change) (i : ℕ) (c : Change) → i < length changes → c ≡ get_or changes i c → HoldsNodes now buckets (with_changes (take i changes) site) →

@@ -1,30 +1,26 @@
 -- Who sends is one of the site's nodes.
-use Rattle.std.proofs.Common.{◌≡◌, ℕ, ◌+◌, ◌*◌, ◌<◌, ◌≤◌, List, [], ◌∷◌, ◌++◌, length, map, filter, sym, ap, subst, ◌∙◌}
+use Rattle.std.proofs.Common.{◌≡◌, ℕ, ◌+◌, ◌*◌, ◌<◌, List, [], ◌∷◌, ◌++◌, length, map, filter, sym, ap, subst}
 use Rattle.std.specs.Prelude.{Some}
 use Rattle.std.specs.List.{AllByRecursion, flat_map}
-use Rattle.rb_base.specs.declared.message.Message.{Message}
 use Rattle.rb_base.specs.declared.message.Sent.{Sent}
 use Rattle.rb_journal_defs.specs.Body.{numbers_below}
-use Rattle.rb_message_defs.specs.Nodes.{numbers_in, group_of, successor_of, owned_by, sent_from}
+use Rattle.rb_message_defs.specs.Nodes.{numbers_in, group_of, successor_of, owned_by}
 use Rattle.rb_message_defs.proofs.Messages.{all_below, all_joined, all_mapped, all_more}
 use Rattle.rb_message_defs.proofs.Again.{all_flat}
+use Rattle.rb_message_defs.proofs.Places.{both_of, filtered_below}
+use Rattle.rb_message_defs.proofs.Groups.{IsOf, numbers_are}
+use Rattle.rb_message_defs.proofs.Parts.{from_sender}
 use Rattle.rb_group.specs.Kept as group
 use Rattle.rb_group.specs.Kept.{Kept, numbers_of, done_in, again_in, returns_in, unacknowledged_in}
 use Rattle.rb_nodes.specs.Nodes.{Buffered, needed_by, share_of, HoldsNodes, sent_at_close, sent_at_resend, sent_at_takeover}
 use Rattle.rb_nodes.specs.declared.nodes.Nodes.{Nodes}
 use Rattle.rb_nodes.proofs.NodeLaws.{share_count}
-use Rattle.rb_message_defs.proofs.Waiting.{filtered_below}
-use Rattle.rb_nodes.proofs.PlaceLaws.{IsOf, numbers_are, numbers_below_all, owner_below, successor_below}
+use Rattle.rb_nodes.proofs.PlaceLaws.{numbers_below_all, owner_below, successor_below}
 use Rattle.rb_nodes.proofs.ShareLaws.{owner_share}
 
 -- the numbers of a share are those of its group
 pub numbers_share : (buckets : ℕ) (site : Buffered) (number : ℕ) → numbers_of (share_of buckets site number) ≡ numbers_in site.members number
 numbers_share buckets site number = ap (λ (n : ℕ). map (λ step. number * site.members.replicas + step) (numbers_below n)) (share_count buckets site number)
-
--- two facts of each item
-both_of : (P Q : ℕ → Type 0) (xs : List ℕ) → AllByRecursion P xs → AllByRecursion Q xs → AllByRecursion (λ x. P x × Q x) xs
-both_of P Q [] p q = tt
-both_of P Q (x ∷ xs) p q = ((p.0, q.0), both_of P Q xs p.1 q.1)
 
 -- the owners of a group's buckets are nodes of the site
 owners_below : (nodes : Nodes) (buckets : ℕ) (site : Buffered) (number : ℕ) → HoldsNodes nodes buckets site → number < length nodes.groups.items →
@@ -38,11 +34,6 @@ owners_below nodes buckets site number held within =
         let same = owner_share buckets site number bucket is.0.0 is.0.1 in
         let below = owner_below nodes buckets site bucket held is.1 in
         subst (λ (owner : ℕ). owner < buckets) (sym same) below
-
--- messages of one sender
-from_sender : (most sender : ℕ) (messages : List Message) → sender < most → AllByRecursion (λ m. m.sender < most) (sent_from sender messages)
-from_sender most sender [] below = tt
-from_sender most sender (message ∷ messages) below = (below, from_sender most sender messages below)
 
 -- what is resent by senders below a number
 again_senders : (kept : Kept) (most : ℕ) (sender : ℕ → ℕ) (buckets : List ℕ) → AllByRecursion (λ bucket. sender bucket < most) buckets → AllByRecursion (λ m. m.sender < most) (flat_map (λ bucket. again_in kept (sender bucket) bucket) buckets)

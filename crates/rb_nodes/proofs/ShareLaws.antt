@@ -1,14 +1,12 @@
 -- What a share of a group says: the same owners as the site, the same nodes that are up, and the
 -- same nodes that cover.
-use Rattle.std.proofs.Common.{◌≡◌, ℕ, zero, suc, ◌+◌, ◌*◌, ◌-◌, ◌<◌, ◌≤◌, Bool, true, false, List, [], ◌∷◌, map, refl, sym, ap, ◌∙◌, arith}
+use Rattle.std.proofs.Common.{◌≡◌, ℕ, ◌+◌, ◌*◌, ◌<◌, ◌≤◌, Bool, true, false, List, [], refl, sym, ap, ◌∙◌}
 use Rattle.std.specs.Prelude.{◌&&◌, nat_le, if◌then◌else◌, Option, Some, None, unwrap_or}
 use Rattle.std.specs.Option.{option_map_or}
-use Rattle.std.specs.List.{slice_get}
 use Rattle.rb_base.specs.declared.change.Change.{Change}
-use Rattle.rb_journal_defs.specs.Body.{numbers_below}
 use Rattle.rb_message_defs.specs.Message.{home_node}
 use Rattle.rb_message_defs.specs.Nodes.{Node, node_at, owner_in, covers}
-use Rattle.rb_message_defs.proofs.Numbers.{number_at}
+use Rattle.rb_message_defs.proofs.Ranges.{at_number}
 use Rattle.rb_bucket.specs.declared.bucket.BucketBuffer.{BucketBuffer}
 use Rattle.rb_group.specs.Kept as group
 use Rattle.rb_group.specs.Kept.{Kept, HoldsNode, is_after}
@@ -55,18 +53,6 @@ keeps_same group kept changes same keeps = record {
   closed = keeps.closed;
   countable = keeps.countable;
 }
-
-pub get_map : {X : Type 0} (f : ℕ → X) (xs : List ℕ) (k x : ℕ) → slice_get xs k ≡ Some x → slice_get (map f xs) k ≡ Some (f x)
-get_map f [] k x there = absurd (let g : None ≡ Some x = there in cc)
-get_map f (y ∷ xs) zero x there = ap Some (ap f (let g : Some y ≡ Some x = there in cc))
-get_map f (y ∷ xs) (suc k) x there = get_map f xs k x there
-
--- the item at the place of a number of a group
-pub at_number : {X : Type 0} (f : ℕ → X) (first n number : ℕ) → first ≤ number → number < first + n → slice_get (map f (map (λ step. first + step) (numbers_below n))) (number - first) ≡ Some (f number)
-at_number f first n number from below =
-    let same : first + (number - first) ≡ number = omega arith in
-    get_map f (map (λ step. first + step) (numbers_below n)) (number - first) number
-    (get_map (λ step. first + step) (numbers_below n) (number - first) (number - first) (number_at n (number - first) (omega arith)) ∙ ap (λ (x : ℕ). Some x) same)
 
 -- a share has the site's owners
 pub owner_share : (buckets : ℕ) (site : Buffered) (number bucket : ℕ) → number * site.members.replicas ≤ bucket → bucket < number * site.members.replicas + site.members.replicas →

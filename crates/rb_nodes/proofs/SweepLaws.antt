@@ -1,15 +1,15 @@
 -- What the nodes of a site represent after an event of all groups: a close, a resend, an
 -- acknowledgement.
-use Rattle.std.proofs.Common.{◌≡◌, ◌≢◌, ◌⊎◌, ℕ, ◌+◌, ◌*◌, ◌<◌, ◌≤◌, Bool, List, [], ◌∷◌, ◌++◌, length, map, set, get_or, sym, ap, subst, ◌∙◌, inl, inr, arith, add-one, length-append}
+use Rattle.std.proofs.Common.{◌≡◌, ◌≢◌, ◌⊎◌, ℕ, ◌+◌, ◌*◌, ◌<◌, ◌≤◌, Bool, List, [], ◌∷◌, ◌++◌, length, map, set, get_or, sym, ap, subst, ◌∙◌, inl, inr, arith, length-append}
 use Rattle.std.specs.Prelude.{◌==◌, ◌&&◌, not, if◌then◌else◌}
-use Rattle.std.specs.List.{flat_map}
-use Rattle.std.proofs.lemmas.List.{append-nil, get_or-set_same, get_or-set_other}
-use Rattle.std.proofs.lemmas.Grind.{flat_map-append}
+use Rattle.std.proofs.lemmas.List.{get_or-set_same, get_or-set_other}
 use Rattle.rb_base.specs.declared.message.Sent.{Sent}
-use Rattle.rb_journal_defs.specs.Body.{numbers_below}
 use Rattle.rb_journal_defs.proofs.Order.{eq_or_ne}
 use Rattle.rb_message_defs.specs.Message.{home_node}
 use Rattle.rb_message_defs.specs.Nodes.{owner_in, returns, with_returns}
+use Rattle.rb_message_defs.proofs.Places.{numbered_count, place_within}
+use Rattle.rb_message_defs.proofs.Ranges.{told_more}
+use Rattle.rb_message_defs.proofs.Members.{owner_returned}
 use Rattle.rb_group.specs.Kept as share
 use Rattle.rb_group.specs.Kept.{Kept, returns_in, covers_in}
 use Rattle.rb_group.specs.Group as called
@@ -20,13 +20,9 @@ use Rattle.rb_group.proofs.Covering.{map_same}
 use Rattle.rb_nodes.specs.Nodes.{Buffered, needed_by, share_of, only_closed, with_close, with_acknowledged, sent_at_close, sent_at_resend, GroupHolds, GroupsHold, HoldsNodes, OwnersCover, CanCloseAll, CanResend, CanAcknowledge}
 use Rattle.rb_nodes.specs.declared.nodes.Nodes.{Nodes}
 use Rattle.rb_nodes.proofs.ShareLaws.{owner_share, covers_share}
-use Rattle.rb_nodes.proofs.NodeLaws.{share_count, owner_covers, group_here, place_within, group_more}
-use Rattle.rb_nodes.proofs.MemberLaws.{owner_returned, numbered_count, group_fits}
+use Rattle.rb_nodes.proofs.NodeLaws.{share_count, owner_covers, group_here, group_more}
+use Rattle.rb_nodes.proofs.MemberLaws.{fits_in}
 use Rattle.rb_nodes.proofs.GroupLaws.{share_fits}
-
--- the groups that a loop has not come to are unchanged
-pub todo_groups : (first now : List Group) (at : ℕ) (new : Group) → ((k : ℕ) (d : Group) → at ≤ k → get_or now k d ≡ get_or first k d) → (k : ℕ) (d : Group) → at + 1 ≤ k → get_or (set now at new) k d ≡ get_or first k d
-todo_groups first now at new todo k d above = get_or-set_other now at k new d (λ same. omega arith) ∙ todo k d (omega arith)
 
 -- those that it has come to represent what they are to
 pub done_groups : (buckets : ℕ) (site : Buffered) (now : List Group) (at : ℕ) (new : Group) → at < length now → ((k : ℕ) (d : Group) → k < at → GroupHolds buckets site k (get_or now k d)) → GroupHolds buckets site at new →
@@ -63,12 +59,6 @@ nodes_acknowledged nodes next buckets site through held same_buckets same_replic
   groups = groups;
 }
 
--- what is made group by group, with one more
-pub told_more : (told : ℕ → List Sent) (n : ℕ) → flat_map told (numbers_below (n + 1)) ≡ flat_map told (numbers_below n) ++ told n
-told_more told n =
-    subst (λ (m : ℕ). flat_map told (numbers_below m) ≡ flat_map told (numbers_below n) ++ told n) (sym (add-one n))
-    (flat_map-append told (numbers_below n) (n ∷ []) ∙ ap (λ (ss : List Sent). flat_map told (numbers_below n) ++ ss) (append-nil (told n)))
-
 -- a bucket's owner covers at the site if it covers in its group
 pub all_cover : (nodes : Nodes) (buckets : ℕ) (site : Buffered) (number : ℕ) (group : Group) → HoldsNodes nodes buckets site → OwnersCover buckets site → number < length nodes.groups.items → GroupHolds buckets site number group →
     AllCover (share_of buckets site number)
@@ -76,7 +66,7 @@ all_cover nodes buckets site number group held cover within here = λ bucket is.
     let count = share_count buckets site number in
     let from = is.0 in
     let below = is.1 in
-    let fits = group_fits number site.members.replicas (length nodes.groups.items) buckets within (ap (λ (r : ℕ). length nodes.groups.items * r) (sym held.replicas) ∙ held.count) in
+    let fits = fits_in nodes buckets site number held within in
     owner_covers buckets site number bucket (length nodes.groups.items) group here (record { within = within; from = from; below = omega arith }) (omega arith) cover
 
 -- a group can resend what is not acknowledged
@@ -120,14 +110,11 @@ owners_closed nodes buckets site prev next number held within =
     next_owner : ℕ → ℕ
     next_owner bucket = if returns_in after bucket then home_node bucket else share.owner_in (share_of buckets site number) bucket
 
-    fits : first + site.members.replicas ≤ buckets
-    fits = group_fits number site.members.replicas (length nodes.groups.items) buckets within (ap (λ (r : ℕ). length nodes.groups.items * r) (sym held.replicas) ∙ held.count)
-
     one : (k : ℕ) → k < site.members.replicas → next_owner (first + k) ≡ owner_in (with_returns needed site.members) (first + k)
     one k below =
         let bucket = first + k in
         let many = held.owners in
-        let room = fits in
+        let room = fits_in nodes buckets site number held within in
         ap (λ (o : ℕ). if not (o == home_node bucket) && covers_in after (home_node bucket) then home_node bucket else o) (owner_share buckets site number bucket (omega arith) (omega arith))
         ∙ ap (λ (c : Bool). if not (owner_in site.members bucket == home_node bucket) && c then home_node bucket else owner_in site.members bucket) (covers_share buckets (only_closed prev next site) number bucket (omega arith) (omega arith))
         ∙ sym (owner_returned needed bucket site.members (omega arith))

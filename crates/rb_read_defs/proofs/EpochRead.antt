@@ -32,7 +32,8 @@ use Rattle.rb_read_defs.proofs.Fields.{ends_at_start, gives_ends}
 use Rattle.rb_read_defs.proofs.EventsRead.{begin_read, status_map_read, xid_ends, table_map_gives}
 use Rattle.rb_read_defs.proofs.RowsRead.{change_ends, statuses_end, change_table_first, status_table_first, end_flag_small}
 use Rattle.rb_read_defs.proofs.EventSeen.{head_of, Sees, same_cuts, one_seen}
-use Rattle.rb_read_defs.proofs.TablesNamed.{Ascend, same_id, has, prefix_of, ids_of, find_id, not_later, tables_ascend, tables_all, tables_back, IsTable, table_there}
+use Rattle.rb_read_defs.proofs.Ids.{Ascend, same_id, has}
+use Rattle.rb_read_defs.proofs.TablesNamed.{prefix_of, ids_of, find_id, not_later, tables_ascend, tables_all, tables_back, IsTable, table_there}
 
 -- after these events an epoch is open, with these events and contents so far; none of the epoch's
 -- events gives a step

@@ -3,6 +3,7 @@ pub mod EventsRead
 pub mod Fields
 pub mod Growing
 pub mod RowsRead
+pub mod Ids
 pub mod TablesNamed
 pub mod EpochRead
 pub mod Prefixes

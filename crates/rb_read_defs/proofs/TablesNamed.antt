@@ -1,106 +1,112 @@
 -- The tables that changes name are in ascending order of their ids, so each id has one table,
 -- whichever end the search starts from.
-use Rattle.std.proofs.Common.{◌≡◌, ℕ, ◌<◌, ◌≤◌, Bool, true, false, List, [], ◌∷◌, map, refl, ap, ◌∙◌, arith, inl, inr}
-use Rattle.std.specs.Prelude.{◌==◌, ◌||◌, nat_lt, if◌then◌else◌, fold, find, Option, Some}
-use Rattle.std.proofs.lemmas.Bool.{lt-ltb, le-ltb, cases_lt}
-use Rattle.std.proofs.lemmas.Bool.Decides.{nat_tests}
-use Rattle.std.specs.List.{list_any, flat_map, AllByRecursion}
+use Rattle.std.proofs.Common.{◌≡◌, ℕ, zero, suc, ◌<◌, ◌≤◌, Bool, true, false, List, [], ◌∷◌, ◌++◌, map, refl, sym, ap, ◌∙◌, ◌⊎◌, inl, inr, arith, eqb-true}
+use Rattle.std.specs.Prelude.{◌==◌, ◌||◌, ◌&&◌, find, Option, Some}
+use Rattle.std.specs.List.{flat_map, AllByRecursion}
 use Rattle.std.specs.Option.{option_map_or}
+use Rattle.std.proofs.lemmas.Bool.{or_left, or_right, cases_lt}
+use Rattle.std.proofs.lemmas.Bool.Decides.{nat_tests}
+use Rattle.std.proofs.lemmas.List.Folds.{list_any-append}
+use Rattle.std.proofs.lemmas.Map.Views.{any-filter_same}
 use Rattle.rb_base.specs.declared.schema.Mapped.{Mapped}
 use Rattle.rb_base.specs.declared.change.Change.{Change}
-use Rattle.rb_read_defs.specs.Stream.{among, tables_named}
+use Rattle.rb_read_defs.specs.Stream.{names, greatest_id, ids_to, tables_named}
+use Rattle.rb_read_defs.proofs.Ids.{Ascend, has, same_id, same_ids, filter_ascends, all_end, ascends_end, among, among_ascends, has_among}
 
--- ids in ascending order
-abbrev pub Ascend : List ℕ → Type 0
-Ascend [] = Unit {0}
-Ascend (id ∷ ids) = AllByRecursion (λ other. id < other) ids × Ascend ids
-
--- an id is one of these
-abbrev pub has : ℕ → List ℕ → Bool
-has id ids = list_any (λ other. other == id) ids
-
-below_more : (low id : ℕ) (ids : List ℕ) → low < id → AllByRecursion (λ other. low < other) ids → AllByRecursion (λ other. low < other) (among id ids)
-below_more low id [] less all = (less, tt)
-below_more low id (x ∷ xs) less all = go (nat_lt id x) (id == x) (below_more low id xs less all.1)
+-- the ids up to a last one
+ids_within : (last : ℕ) → AllByRecursion (λ id. id < suc last) (ids_to last)
+ids_within zero = (omega arith, tt)
+ids_within (suc last) =
+    all_end (λ id. id < suc (suc last)) (ids_to last) (suc last)
+    (wider (ids_to last) (ids_within last)) (omega arith)
   where
-    go : (b c : Bool) → AllByRecursion (λ other. low < other) (among id xs) → AllByRecursion (λ other. low < other) (if b then id ∷ x ∷ xs else (if c then x ∷ xs else x ∷ among id xs))
-    go true c rest = (less, all)
-    go false true rest = all
-    go false false rest = (all.0, rest)
+    wider : (ids : List ℕ) → AllByRecursion (λ id. id < suc last) ids →
+        AllByRecursion (λ id. id < suc (suc last)) ids
+    wider [] all = tt
+    wider (id ∷ ids) all = (let first : id < suc last = all.0 in omega arith, wider ids all.1)
 
-below_all : (low high : ℕ) (ids : List ℕ) → low < high → AllByRecursion (λ other. high < other) ids → AllByRecursion (λ other. low < other) ids
-below_all low high [] less all = tt
-below_all low high (x ∷ xs) less all = (let first = all.0 in omega arith, below_all low high xs less all.1)
+ids_ascend : (last : ℕ) → Ascend (ids_to last)
+ids_ascend zero = (tt, tt)
+ids_ascend (suc last) = ascends_end (ids_to last) (suc last) (ids_ascend last) (ids_within last)
 
-among_ascends : (id : ℕ) (ids : List ℕ) → Ascend ids → Ascend (among id ids)
-among_ascends id [] up = (tt, tt)
-among_ascends id (x ∷ xs) up = elim (cases_lt id x) [
-  | inl below ↦ rw (lt-ltb id x below) ((below, below_all id x xs below up.0), up)
-  | inr above ↦ rw (le-ltb id x above) (go above (among_ascends id xs up.1) (id == x) refl)
-]
+ids_have : (n last : ℕ) → n ≤ last → has n (ids_to last) ≡ true
+ids_have n zero within =
+    or_left (0 == n) false (let first : (0 == n) ≡ true = grind (arith, nat_tests) in first)
+ids_have n (suc last) within =
+    list_any-append (λ other. other == n) (ids_to last) (suc last ∷ [])
+    ∙ go (cases_lt last n) (ids_have n last)
   where
-    go : x ≤ id → Ascend (among id xs) → (c : Bool) → (id == x) ≡ c → Ascend (if c then x ∷ xs else x ∷ among id xs)
-    go above rest true is = up
-    go above rest false is = (below_more x id xs (grind (arith, nat_tests)) up.0, rest)
+    go : (last < n) ⊎ (n ≤ last) → (n ≤ last → has n (ids_to last) ≡ true) →
+        (has n (ids_to last) || has n (suc last ∷ [])) ≡ true
+    go (inl above) rest =
+        let here : (suc last == n) ≡ true = grind (arith, nat_tests) in
+        or_right (has n (ids_to last)) (has n (suc last ∷ [])) (or_left (suc last == n) false here)
+    go (inr below) rest = or_left (has n (ids_to last)) (has n (suc last ∷ [])) (rest below)
 
--- one more id leaves the others in the list
-keeps : (other id : ℕ) (ids : List ℕ) → has other ids ≡ true → has other (among id ids) ≡ true
-keeps other id [] is = absurd (let no : false ≡ true = is in cc)
-keeps other id (x ∷ xs) is = go (nat_lt id x) (id == x) (keeps other id xs)
+-- no named id is above the greatest
+named_within : (n : ℕ) (changes : List Change) → names changes n ≡ true → n ≤ greatest_id changes
+named_within n [] named = absurd (let no : false ≡ true = named in cc)
+named_within n (change ∷ changes) named = go (change.table == n) refl named (named_within n changes)
   where
-    following : (has other xs ≡ true → has other (among id xs) ≡ true) → (b : Bool) → (b || has other xs) ≡ true → (b || has other (among id xs)) ≡ true
-    following rest true is = refl
-    following rest false is = rest is
+    go : (b : Bool) → (change.table == n) ≡ b → (b || names changes n) ≡ true →
+        (names changes n ≡ true → n ≤ greatest_id changes) → n ≤ greatest_id (change ∷ changes)
+    go true here is rest = let same : change.table ≡ n = eqb-true change.table n here in omega arith
+    go false here is rest = let later : n ≤ greatest_id changes = rest is in omega arith
 
-    front : (b c : Bool) → c ≡ true → (b || c) ≡ true
-    front true c is = refl
-    front false c is = is
-
-    go : (b c : Bool) → (has other xs ≡ true → has other (among id xs) ≡ true) → has other (if b then id ∷ x ∷ xs else (if c then x ∷ xs else x ∷ among id xs)) ≡ true
-    go true c rest = front (id == other) ((x == other) || has other xs) is
-    go false true rest = is
-    go false false rest = following rest (x == other) is
-
-pub same_id : (id : ℕ) → (id == id) ≡ true
-same_id id = grind (arith, nat_tests)
-
-there : (id : ℕ) (ids : List ℕ) → has id (among id ids) ≡ true
-there id [] = rw (same_id id) refl
-there id (x ∷ xs) = go (nat_lt id x) (id == x) refl (there id xs)
+-- the named ids are those of the changes
+pub has_named : (n : ℕ) (changes : List Change) → has n (tables_named changes) ≡ names changes n
+has_named n changes =
+    any-filter_same (λ other. other == n) (names changes) (names changes n)
+    (λ id is. ap (names changes) (eqb-true id n is)) (ids_to (greatest_id changes))
+    ∙ go (names changes n) refl
   where
-    front : (b c : Bool) → c ≡ true → (b || c) ≡ true
-    front true c is = refl
-    front false c is = is
-
-    go : (b c : Bool) → (id == x) ≡ c → has id (among id xs) ≡ true → has id (if b then id ∷ x ∷ xs else (if c then x ∷ xs else x ∷ among id xs)) ≡ true
-    go true c is rest = rw (same_id id) refl
-    go false true is rest = let b : (x == id) ≡ true = grind (arith, nat_tests) in rw b refl
-    go false false is rest = front (x == id) (has id (among id xs)) rest
-
--- these ids together with those of the changes
-abbrev named_from : List ℕ → List Change → List ℕ
-named_from ids changes = fold (λ ids change. among change.table ids) ids changes
-
-named_ascend : (ids : List ℕ) (changes : List Change) → Ascend ids → Ascend (named_from ids changes)
-named_ascend ids [] up = up
-named_ascend ids (change ∷ changes) up = named_ascend (among change.table ids) changes (among_ascends change.table ids up)
-
-named_keeps : (id : ℕ) (ids : List ℕ) (changes : List Change) → has id ids ≡ true → has id (named_from ids changes) ≡ true
-named_keeps id ids [] is = is
-named_keeps id ids (change ∷ changes) is = named_keeps id (among change.table ids) changes (keeps id change.table ids is)
-
-named_all : (ids : List ℕ) (changes : List Change) → AllByRecursion (λ change. has change.table (named_from ids changes) ≡ true) changes
-named_all ids [] = tt
-named_all ids (change ∷ changes) = (head, named_all (among change.table ids) changes)
-  where
-    head : has change.table (named_from ids (change ∷ changes)) ≡ true
-    head = named_keeps change.table (among change.table ids) changes (there change.table ids)
+    go : (b : Bool) → names changes n ≡ b → (b && has n (ids_to (greatest_id changes))) ≡ b
+    go true named = ids_have n (greatest_id changes) (named_within n changes named)
+    go false none = refl
 
 pub tables_ascend : (changes : List Change) → Ascend (tables_named changes)
-tables_ascend changes = named_ascend [] changes tt
+tables_ascend changes =
+    filter_ascends (names changes) (ids_to (greatest_id changes)) (ids_ascend (greatest_id changes))
 
-pub tables_all : (changes : List Change) → AllByRecursion (λ change. has change.table (tables_named changes) ≡ true) changes
-tables_all changes = named_all [] changes
+names_each : (whole changes : List Change) →
+    ((n : ℕ) → names changes n ≡ true → names whole n ≡ true) →
+    AllByRecursion (λ change. has change.table (tables_named whole) ≡ true) changes
+names_each whole [] within = tt
+names_each whole (change ∷ changes) within =
+    (has_named change.table whole ∙ within change.table here, names_each whole changes later)
+  where
+    here : ((change.table == change.table) || names changes change.table) ≡ true
+    here = or_left (change.table == change.table) (names changes change.table) (same_id change.table)
+
+    later : (n : ℕ) → names changes n ≡ true → names whole n ≡ true
+    later n named = within n (or_right (change.table == n) (names changes n) named)
+
+pub tables_all : (changes : List Change) →
+    AllByRecursion (λ change. has change.table (tables_named changes) ≡ true) changes
+tables_all changes = names_each changes changes (λ n named. named)
+
+-- one more change inserts the id of its table
+pub named_more : (changes : List Change) (change : Change) →
+    tables_named (changes ++ change ∷ []) ≡ among change.table (tables_named changes)
+named_more changes change =
+    same_ids (tables_named (changes ++ change ∷ [])) (among change.table (tables_named changes))
+    (tables_ascend (changes ++ change ∷ []))
+    (among_ascends change.table (tables_named changes) (tables_ascend changes))
+    (λ n. has_named n (changes ++ change ∷ []) ∙ names_more n
+    ∙ ap (λ (b : Bool). (change.table == n) || b) (sym (has_named n changes))
+    ∙ sym (has_among n change.table (tables_named changes)))
+  where
+    turned : (a b : Bool) → (a || (b || false)) ≡ (b || a)
+    turned true true = refl
+    turned true false = refl
+    turned false true = refl
+    turned false false = refl
+
+    names_more : (n : ℕ) →
+        names (changes ++ change ∷ []) n ≡ ((change.table == n) || names changes n)
+    names_more n =
+        list_any-append (λ other. other.table == n) changes (change ∷ [])
+        ∙ turned (names changes n) (change.table == n)
 
 -- these tables before the others, the last one first
 abbrev pub prefix_of : List Mapped → List Mapped → List Mapped

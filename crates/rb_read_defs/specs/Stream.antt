@@ -1,6 +1,6 @@
 -- A log as it is read: its bytes cut into events by their lengths, each event judged by the events
 -- before it, and the steps that they give.
-use Rattle.std.specs.Prelude.{ℕ, zero, suc, ◌+◌, ◌-◌, ◌==◌, nat_le, nat_lt, ◌&&◌, ◌||◌, not, Bool, true, false, if◌then◌else◌, List, [], ◌∷◌, ◌++◌, length, map, filter, fold, take, drop, find, Option, Some, None, unwrap_or, is_some}
+use Rattle.std.specs.Prelude.{ℕ, zero, suc, ◌+◌, ◌-◌, ◌==◌, nat_le, nat_lt, ◌&&◌, not, Bool, true, false, if◌then◌else◌, List, [], ◌∷◌, ◌++◌, length, map, filter, max, take, drop, find, Option, Some, None, unwrap_or, is_some}
 use Rattle.std.specs.List.{flat_map, list_any}
 use Rattle.std.specs.Option.{option_map, option_map_or, option_and_then}
 use Rattle.std.specs.Str.{bytes_eq}
@@ -270,14 +270,23 @@ changes_read (event ∷ earlier) = changes_read earlier ++ made event.says
     made (Changes all) = all
     made other = []
 
--- a number inserted into ascending numbers, unless it is already there
-abbrev pub among : ℕ → List ℕ → List ℕ
-among n [] = n ∷ []
-among n (x ∷ xs) = if nat_lt n x then n ∷ x ∷ xs else (if n == x then x ∷ xs else x ∷ among n xs)
+-- one of these changes is of the table with this id
+abbrev pub names : List Change → (id : ℕ) → Bool
+names changes id = list_any (λ change. change.table == id) changes
+
+-- the greatest table id of these changes, or 0 if there is no change
+abbrev pub greatest_id : List Change → ℕ
+greatest_id [] = 0
+greatest_id (change ∷ changes) = max change.table (greatest_id changes)
+
+-- the ids from 0 to `last`, in ascending order
+abbrev pub ids_to : (last : ℕ) → List ℕ
+ids_to zero = 0 ∷ []
+ids_to (suc last) = ids_to last ++ suc last ∷ []
 
 -- the ids of the tables that these changes name, in ascending order, each once
 abbrev pub tables_named : List Change → List ℕ
-tables_named changes = fold (λ ids change. among change.table ids) [] changes
+tables_named changes = filter (names changes) (ids_to (greatest_id changes))
 
 -- the tables that these changes name, each by the last map of its id
 abbrev pub tables_read : List Known → List Change → List Mapped

@@ -1,104 +1,15 @@
 -- The tables that changes name, among those that a script declares, are the ones that a reader
 -- collects: each id once, in ascending order.
-use Rattle.std.proofs.Common.{◌≡◌, ℕ, ◌+◌, ◌<◌, ◌≤◌, Bool, true, false, cond, List, [], ◌∷◌, length, map, filter, refl, sym, ap, subst, ◌∙◌, inl, inr, arith, eq-eqb, eqb-true, ne_eqb}
-use Rattle.std.specs.Prelude.{◌⊎◌, ◌==◌, ◌||◌, nat_lt, fold, if◌then◌else◌}
+use Rattle.std.proofs.Common.{◌≡◌, ℕ, ◌+◌, ◌<◌, ◌≤◌, Bool, true, false, cond, List, [], ◌∷◌, length, map, filter, refl, sym, ap, subst, ◌∙◌, inl, inr, arith, eq-eqb, eqb-true}
+use Rattle.std.specs.Prelude.{◌⊎◌, ◌==◌, ◌||◌}
 use Rattle.std.specs.List.{AllByRecursion, enumerate_from}
-use Rattle.std.proofs.lemmas.Bool.{cases_lt}
 use Rattle.rb_base.specs.declared.schema.Mapped.{Mapped}
 use Rattle.rb_base.specs.declared.schema.Schema.{Schema}
 use Rattle.rb_base.specs.declared.change.Change.{Change}
 use Rattle.rb_journal_defs.specs.Body.{is_named_in, mapped_table, mapped_tables}
-use Rattle.rb_play_defs.proofs.Columns.{names}
-use Rattle.rb_read_defs.specs.Stream.{among, tables_named}
-use Rattle.rb_read_defs.proofs.TablesNamed.{Ascend, has, ids_of, same_id, tables_ascend}
-
-or_swap : (a b c : Bool) → (a || (b || c)) ≡ (b || (a || c))
-or_swap true true c = refl
-or_swap true false c = refl
-or_swap false b c = refl
-
--- an id is in the list with one more id if it is that id or was in the list
-has_among : (n id : ℕ) (ids : List ℕ) → has n (among id ids) ≡ ((id == n) || has n ids)
-has_among n id [] = refl
-has_among n id (x ∷ xs) = go (nat_lt id x) (id == x) refl (has_among n id xs)
-  where
-    twice : (a b : Bool) → (a || b) ≡ (a || (a || b))
-    twice true b = refl
-    twice false b = refl
-
-    go : (b c : Bool) → (id == x) ≡ c → has n (among id xs) ≡ ((id == n) || has n xs) → has n (if b then id ∷ x ∷ xs else (if c then x ∷ xs else x ∷ among id xs)) ≡ ((id == n) || ((x == n) || has n xs))
-    go true c q rest = refl
-    go false true q rest = subst (λ (y : ℕ). ((x == n) || has n xs) ≡ ((y == n) || ((x == n) || has n xs))) (sym (eqb-true id x q)) (twice (x == n) (has n xs))
-    go false false q rest = ap (λ (b : Bool). (x == n) || b) rest ∙ or_swap (x == n) (id == n) (has n xs)
-
-has_from : (n : ℕ) (ids : List ℕ) (changes : List Change) → has n (fold (λ ids change. among change.table ids) ids changes) ≡ (names changes n || has n ids)
-has_from n ids [] = refl
-has_from n ids (change ∷ changes) =
-    has_from n (among change.table ids) changes
-    ∙ ap (λ (b : Bool). names changes n || b) (has_among n change.table ids)
-    ∙ joined (names changes n) (change.table == n) (has n ids)
-  where
-    joined : (a b c : Bool) → (a || (b || c)) ≡ ((b || a) || c)
-    joined true true c = refl
-    joined true false c = refl
-    joined false true c = refl
-    joined false false c = refl
-
-has_named : (n : ℕ) (changes : List Change) → has n (tables_named changes) ≡ names changes n
-has_named n changes = has_from n [] changes ∙ or_none (names changes n)
-  where
-    or_none : (b : Bool) → (b || false) ≡ b
-    or_none true = refl
-    or_none false = refl
-
--- an id is not among greater ones
-not_above : (n : ℕ) (ids : List ℕ) → AllByRecursion (λ other. n < other) ids → has n ids ≡ false
-not_above n [] all = refl
-not_above n (x ∷ xs) all =
-    let no : (x == n) ≡ false = ne_eqb x n (λ same. let less : n < x = all.0 in absurd (omega arith)) in
-    ap (λ (b : Bool). b || has n xs) no ∙ not_above n xs all.1
-
-has_first : (x : ℕ) (xs : List ℕ) → has x (x ∷ xs) ≡ true
-has_first x xs = ap (λ (b : Bool). b || has x xs) (same_id x)
-
-above_all : (low high : ℕ) (ids : List ℕ) → low < high → AllByRecursion (λ other. high < other) ids → AllByRecursion (λ other. low < other) ids
-above_all low high [] less all = tt
-above_all low high (x ∷ xs) less all = (let first : high < x = all.0 in omega arith, above_all low high xs less all.1)
-
-order_of : (x y : ℕ) → (x < y) ⊎ ((y < x) ⊎ (x ≡ y))
-order_of x y = first (cases_lt x y)
-  where
-    second : y ≤ x → (y < x) ⊎ (x ≤ y) → (x < y) ⊎ ((y < x) ⊎ (x ≡ y))
-    second below (inl more) = inr (inl more)
-    second below (inr above) = inr (inr (omega arith))
-
-    first : (x < y) ⊎ (y ≤ x) → (x < y) ⊎ ((y < x) ⊎ (x ≡ y))
-    first (inl less) = inl less
-    first (inr below) = second below (cases_lt y x)
-
--- two ascending lists with the same ids are equal
-same_ids : (xs ys : List ℕ) → Ascend xs → Ascend ys → ((n : ℕ) → has n xs ≡ has n ys) → xs ≡ ys
-same_ids [] [] up over same = refl
-same_ids [] (y ∷ ys) up over same = absurd (let no : false ≡ true = same y ∙ has_first y ys in cc)
-same_ids (x ∷ xs) [] up over same = absurd (let no : true ≡ false = sym (has_first x xs) ∙ same x in cc)
-same_ids (x ∷ xs) (y ∷ ys) up over same = go (order_of x y) (same_ids xs ys up.1 over.1)
-  where
-    other : (n : ℕ) (b : Bool) → (x == n) ≡ b → x ≡ y → has n xs ≡ has n ys
-    other n true q is =
-        let xn : x ≡ n = eqb-true x n q in
-        let left : has n xs ≡ false = subst (λ (m : ℕ). has m xs ≡ false) xn (not_above x xs up.0) in
-        let right : has n ys ≡ false = subst (λ (m : ℕ). has m ys ≡ false) (sym is ∙ xn) (not_above y ys over.0) in
-        left ∙ sym right
-    other n false q is =
-        let first : ((x == n) || has n xs) ≡ ((y == n) || has n ys) = same n in
-        let left : ((x == n) || has n xs) ≡ has n xs = ap (λ (b : Bool). b || has n xs) q in
-        let right : ((y == n) || has n ys) ≡ has n ys = ap (λ (b : Bool). b || has n ys) (subst (λ (m : ℕ). (m == n) ≡ false) is q) in
-        sym left ∙ first ∙ right
-
-    go : (x < y) ⊎ ((y < x) ⊎ (x ≡ y)) → (((n : ℕ) → has n xs ≡ has n ys) → xs ≡ ys) → x ∷ xs ≡ y ∷ ys
-    go (inl less) rest = absurd (let no : true ≡ false = sym (has_first x xs) ∙ same x ∙ not_above x (y ∷ ys) (less, above_all x y ys less over.0) in cc)
-    go (inr (inl more)) rest = absurd (let no : false ≡ true = sym (not_above y (x ∷ xs) (more, above_all y x xs more up.0)) ∙ same y ∙ has_first y ys in cc)
-    go (inr (inr is)) rest = ap (λ (z : ℕ). z ∷ xs) is ∙ ap (λ (zs : List ℕ). y ∷ zs) (rest (λ n. other n (x == n) refl is))
+use Rattle.rb_read_defs.specs.Stream.{names, tables_named}
+use Rattle.rb_read_defs.proofs.Ids.{Ascend, has, order_of, same_ids}
+use Rattle.rb_read_defs.proofs.TablesNamed.{ids_of, tables_ascend, has_named}
 
 -- the tables that pass a test are in ascending order
 ids_from : (test : Mapped → Bool) (n low : ℕ) (schemas : List Schema) → low < n → AllByRecursion (λ other. low < other) (ids_of (filter test (map mapped_table (enumerate_from n schemas))))

@@ -1,12 +1,13 @@
 -- An id among ascending ids.
-use Rattle.std.proofs.Common.{◌≡◌, ◌⊎◌, inl, inr, ℕ, zero, suc, ◌<◌, ◌≤◌, true, false, List, [], ◌∷◌, length, get_or, refl, sym, ap, subst, arith}
+use Rattle.std.proofs.Common.{◌≡◌, ◌⊎◌, inl, inr, ℕ, zero, suc, ◌<◌, ◌≤◌, true, false, List, [], ◌∷◌, ◌++◌, length, get_or, refl, sym, ap, subst, ◌∙◌, arith}
 use Rattle.std.specs.Prelude.{◌==◌}
 use Rattle.std.specs.List.{insert, AllByRecursion}
 use Rattle.std.proofs.lemmas.Bool.{lt-ltb, le-ltb, cases_lt}
 use Rattle.std.proofs.lemmas.Bool.Decides.{nat_tests}
 use Rattle.rb_base.specs.declared.change.Change.{Change}
-use Rattle.rb_read_defs.specs.Stream.{among, tables_named}
-use Rattle.rb_read_defs.proofs.TablesNamed.{Ascend, tables_ascend}
+use Rattle.rb_read_defs.specs.Stream.{tables_named}
+use Rattle.rb_read_defs.proofs.Ids.{Ascend, among}
+use Rattle.rb_read_defs.proofs.TablesNamed.{tables_ascend, named_more}
 
 -- a fact about each item holds for the item at a place
 by_place : (P : ℕ → Type 0) (xs : List ℕ) (i : ℕ) → AllByRecursion P xs → i < length xs → P (get_or xs i 0)
@@ -52,3 +53,11 @@ among_new id (suc i) (x ∷ xs) le below above =
     let other : (id == x) ≡ false = grind (arith, nat_tests) in
     rw (le-ltb id x (omega arith), other)
     (ap (λ (ids : List ℕ). x ∷ ids) (among_new id i xs (omega arith) (λ k lt. below (suc k) (omega arith)) (λ k ge lt. above (suc k) (omega arith) (omega arith))))
+
+-- the ids after the insertion are those that the changes and one more change name
+pub noted : (id : ℕ) (before after : List ℕ) → after ≡ among id before →
+    (changes : List Change) (change : Change) → before ≡ tables_named changes → change.table ≡ id →
+    after ≡ tables_named (changes ++ change ∷ [])
+noted id before after is changes change named same =
+    is ∙ ap (among id) named ∙ ap (λ (one : ℕ). among one (tables_named changes)) (sym same)
+    ∙ sym (named_more changes change)

@@ -1,9 +1,9 @@
-ghost use Rattle.std.specs.Prelude.{◌≡◌, ℕ, ◌==◌, if◌then◌else◌, ◌++◌, [], List, Some, OnOk, OnErr, IfOk, IfSome, option_to_list};
+ghost use Rattle.std.specs.Prelude.{◌≡◌, ℕ, ◌==◌, if◌then◌else◌, ◌++◌, [], ◌∷◌, List, Some, OnOk, OnErr, IfOk, IfSome, option_to_list};
 ghost use Rattle.std.specs.Option.{option_map, ForSome};
 ghost use Rattle.std.specs.Ordering.{nat_cmp};
 ghost use Rattle.std.specs.BTreeMap.{get};
 ghost use Rattle.rb_codec.specs.Columns.{HasColumns};
-ghost use Rattle.rb_read_defs.specs.Stream.{among, tables_named};
+ghost use Rattle.rb_read_defs.specs.Stream.{tables_named};
 
 use crate::epoch_status::EpochStatus;
 use rb_base::{Change, Changes, Epoch, EpochBody, Items, Mapped, MappedTables, NoMemory};
@@ -148,7 +148,9 @@ fn named_ids(alloc: Global, changes: &[Change]) -> Result<Vec<u16>, NoMemory>
 /// Inserts an id into ascending ids, unless it is already there.
 fn note(ids: &mut Vec<u16>, id: u16) -> Result<(), NoMemory>
     requires { (changes : List Change) × (ids.old.items ≡ tables_named changes) }
-    ensures { OnOk result (ids.new.items ≡ among id ids.old.items) }
+    ensures { OnOk result ((changes : List Change) (change : Change) →
+        ids.old.items ≡ tables_named changes → change.table ≡ id →
+        ids.new.items ≡ tables_named (changes ++ change ∷ [])) }
 {
     if let Err(place) = ids.binary_search(&id) {
         ids.insert(place, id)?;

@@ -19,7 +19,7 @@ use Rattle.rb_read_defs.specs.declared.answers.Header.{Header}
 use Rattle.rb_read_defs.specs.declared.answers.Step.{Step}
 use Rattle.rb_read_defs.specs.declared.answers.Step.TheVariants as steps
 use Rattle.rb_read_defs.proofs.TablesNamed.{tables_ascend}
-use Rattle.rb_read_defs.proofs.TablesNamed as named
+use Rattle.rb_read_defs.proofs.Ids as named
 use Rattle.rb_stream.specs.Decoder.{StandsFor, GivesStep, Answers}
 use Rattle.rb_stream.specs.declared.decoder.Decoder.{Decoder}
 use Rattle.rb_stream.specs.declared.fault.StreamFault.{StreamFault}

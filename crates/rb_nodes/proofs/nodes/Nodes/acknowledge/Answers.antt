@@ -1,8 +1,9 @@
 use Rattle.std.proofs.Common.{◌<◌, ◌∙◌, arith, length}
 use Rattle.std.specs.Prelude.{max}
 use Rattle.std.proofs.lemmas.List.{length-set}
+use Rattle.rb_message_defs.proofs.Places.{todo_items}
 use Rattle.rb_nodes.specs.Nodes.{with_acknowledged, share_of}
-use Rattle.rb_nodes.proofs.SweepLaws.{todo_groups, done_groups, group_waits, can_acknowledge, nodes_acknowledged}
+use Rattle.rb_nodes.proofs.SweepLaws.{done_groups, group_waits, can_acknowledge, nodes_acknowledged}
 use Rattle.rb_nodes.proofs.nodes.Nodes.acknowledge.Goals as goal
 
 pub acknowledge-requires : goal.acknowledge-requires
@@ -19,7 +20,7 @@ loop-index-preserved c =
       replicas = before.replicas;
       buckets = before.buckets;
       count = length-set _ _ _ ∙ before.count;
-      todo = todo_groups c.args.self.now.groups.items c.loop-index.self.groups.items c.loop-index.index c.acknowledge.new.self before.todo;
+      todo = todo_items c.args.self.now.groups.items c.loop-index.self.groups.items c.loop-index.index c.acknowledge.new.self before.todo;
       done = λ buckets site held.
           done_groups buckets (with_acknowledged (max site.acknowledged c.args.through.0) site) c.loop-index.self.groups.items c.loop-index.index c.acknowledge.new.self (omega (arith, within, before.count)) (before.done buckets site held)
           (c.acknowledge.ensures (share_of buckets site c.loop-index.index) (group_waits c.args.self.now buckets site c.loop-index.self.groups.items c.loop-index.index c.index_mut.result.now held within before.todo c.index_mut.ensures.value));

@@ -1,5 +1,5 @@
 use Rattle.std.proofs.Common.{arith, ap, ◌∷◌, [], length, length-append, refl}
-use Rattle.rb_nodes.proofs.NodeLaws.{whole_more}
+use Rattle.rb_message_defs.proofs.Places.{whole_more}
 use Rattle.rb_nodes.proofs.SweepLaws.{can_close_group, closed_more, close_here, nodes_closed}
 use Rattle.rb_nodes.proofs.nodes.Nodes.close.Goals as goal
 

@@ -1,4 +1,4 @@
-use Rattle.std.proofs.Common.{refl, ◌∙◌}
+use Rattle.std.proofs.Common.{◌∙◌}
 use Rattle.rb_nodes.specs.Net.{committed_net, failed_in}
 use Rattle.rb_nodes.proofs.NetLaws.{owners_in, net_held}
 use Rattle.rb_nodes.proofs.site_nodes.SiteNodes.commit.Goals as goal
